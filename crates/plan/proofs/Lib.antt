@@ -1,0 +1,5 @@
+pub mod Tested
+pub mod Seats
+pub mod Shares
+pub mod Copied
+pub mod Found
