@@ -1,0 +1,7 @@
+pub mod Number
+pub mod Entries
+pub mod Refusals
+pub mod Checks
+pub mod Written
+pub mod Law
+pub mod Prints
