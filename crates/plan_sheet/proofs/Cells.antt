@@ -17,11 +17,12 @@ use Rattle.std.proofs.shelf.Lists.{append-nil, replicate-append-replicate, nil-
 use Rattle.std.proofs.shelf.Tests.{ne-eqb, eqb-true, leb-true, ltb-true, cond-true, cond-false, and-parts, or-cases, or-left, or-right, and-from, le-leb, cases-bool, false≢true}
 use Rattle.plan_sheet.specs.declared.refusal.Refusal.{Refusal}
 use Rattle.plan_sheet.specs.declared.refusal.Refusal.the-variants.{NoNumber, OutOfRange}
-use Rattle.plan_sheet.specs.Number.{spaces, right, unpadded, read-on, plain, number}
+use Rattle.columns.specs.Number.{spaces, right, unpadded, read-on, plain, number}
 use Rattle.plan.specs.Members.{members, members-from}
 use Rattle.plan_sheet.specs.Entries.{orderly, bit, mask-of}
-use Rattle.plan_sheet.specs.Checks.{first, check, blank, worth, entry-faults}
-use Rattle.plan_sheet.proofs.Text.{padded, number-is, number-right, length-right}
+use Rattle.plan_sheet.specs.Checks.{first, check, worth, entry-faults}
+use Rattle.columns.specs.Number.{blank}
+use Rattle.columns.proofs.Text.{padded, number-is, number-right, length-right}
 use Rattle.plan_sheet.proofs.Groups.{bit-some, pow-double}
 use lib.Pow.{pow-mono}
 

@@ -17,14 +17,15 @@ use Rattle.plan_sheet.specs.declared.refusal.Refusal.{Refusal}
 use Rattle.plan_sheet.specs.declared.refusal.Refusal.the-variants.{Layout, NoNumber, OutOfRange, Members, Groups}
 use Rattle.plan.specs.Shape.{Shape, Valid, is-trustees, is-groups}
 use Rattle.sizes.specs.Sizes.{is-height, is-width}
-use Rattle.plan_sheet.specs.Number.{right, number}
+use Rattle.columns.specs.Number.{right, number}
 use Rattle.plan_sheet.specs.Written.{written, heading, group-line}
 use Rattle.plan_sheet.specs.Entries.{orderly, mask-of}
-use Rattle.plan_sheet.specs.Checks.{first, check, fed, formed, field-at, worth, blank, quantity-fault, entry-fault, entry-faults, entries, mask-at, above-at, line-fault, members-fault, heading-faults, groups-fault, line-count, fault-of, n-of, h-of, w-of, m-of}
+use Rattle.plan_sheet.specs.Checks.{first, check, fed, formed, field-at, worth, quantity-fault, entry-fault, entry-faults, entries, mask-at, above-at, line-fault, members-fault, heading-faults, groups-fault, line-count, fault-of, n-of, h-of, w-of, m-of}
+use Rattle.columns.specs.Number.{blank}
 use Rattle.std.specs.Iters.{counting}
 use Rattle.plan.specs.Every.{every}
 use Rattle.plan_sheet.specs.Law.{plan-of, Complete}
-use Rattle.plan_sheet.proofs.Text.{number-right, length-right}
+use Rattle.columns.proofs.Text.{number-right, length-right}
 use Rattle.plan_sheet.proofs.Cells.{cell}
 use Rattle.plan_sheet.proofs.Fields.{trustees-most}
 use Rattle.plan_sheet.proofs.Lines.{past-groups, above-next}

@@ -9,7 +9,7 @@ use Rattle.std.specs.declared.option.Option.{Option}
 use Rattle.std.specs.declared.option.Option.the-variants.{Some, None}
 use Rattle.plan_sheet.specs.declared.refusal.Refusal.{Refusal}
 use Rattle.plan_sheet.specs.declared.refusal.Refusal.the-variants.{NoNumber, OutOfRange}
-use Rattle.plan_sheet.specs.Number.{number}
+use Rattle.columns.specs.Number.{number}
 use Rattle.plan_sheet.specs.Checks.{first, check, field-at, worth, quantity-fault}
 
 -- a field that holds a number

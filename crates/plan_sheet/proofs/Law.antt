@@ -18,7 +18,7 @@ use Rattle.std.proofs.shelf.Tests.{eqb-true, leb-true, ltb-true, and-parts, fal
 use Rattle.plan_sheet.specs.declared.refusal.Refusal.{Refusal}
 use Rattle.plan.specs.Shape.{Shape, Valid, is-trustees, is-groups, Within, Rising}
 use Rattle.sizes.specs.Sizes.{is-height, is-width}
-use Rattle.plan_sheet.specs.Number.{spaces, right, number}
+use Rattle.columns.specs.Number.{spaces, right, number}
 use Rattle.plan_sheet.specs.Written.{written, heading, group-line}
 use Rattle.plan.specs.Members.{members}
 use Rattle.plan_sheet.specs.Entries.{orderly, mask-of}
@@ -29,7 +29,7 @@ use Rattle.plan_sheet.specs.Law.{plan-of, Sound}
 use Rattle.plan_sheet.proofs.Lines.{first-none, above-next}
 use Rattle.plan_sheet.proofs.Cells.{cell, Under, check-none, field-is, entries-written}
 use Rattle.plan.proofs.Tested.{every-at}
-use Rattle.plan_sheet.proofs.Text.{number-is}
+use Rattle.columns.proofs.Text.{number-is}
 use Rattle.plan_sheet.proofs.Fields.{trustees-most, place-next}
 
 -- fields one after another

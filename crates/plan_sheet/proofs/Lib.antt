@@ -1,7 +1,6 @@
 pub mod Fields
 pub mod Groups
 pub mod Lines
-pub mod Text
 pub mod Cells
 pub mod Law
 pub mod Soundness

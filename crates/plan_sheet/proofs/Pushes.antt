@@ -11,7 +11,7 @@ use Rattle.std.specs.declared.result.Result.the-variants.{Ok, Err}
 use Rattle.std.proofs.shelf.Lists.{append-nil, replicate-more}
 use Rattle.std.specs.Joined.{joined}
 use Rattle.std.specs.Iters.{counting}
-use Rattle.plan_sheet.specs.Number.{spaces, right}
+use Rattle.columns.specs.Number.{spaces, right}
 
 pub made-pushed : {T E : Type 0} (r : Result T E) (was ys now goal : List ℕ) → now ≡ cond (isOk r) (was ++ ys) was → was ++ ys ≡ goal → made r (λ _. now ≡ goal)
 made-pushed (Ok x) was ys now goal e g = e ∙ g

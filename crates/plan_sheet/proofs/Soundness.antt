@@ -11,7 +11,7 @@ use Rattle.std.specs.declared.option.Option.the-variants.{None}
 use Rattle.std.proofs.shelf.Bits.{pow-pos}
 use Rattle.std.proofs.shelf.Tests.{ltb-true, and-parts}
 use Rattle.plan.specs.Shape.{Shape, Valid, is-groups}
-use Rattle.plan_sheet.specs.Number.{right}
+use Rattle.columns.specs.Number.{right}
 use Rattle.plan_sheet.specs.Written.{written, heading, group-line}
 use Rattle.plan_sheet.specs.Checks.{field-at, worth, entry-fault, entries, mask-at, above-at, line-fault, members-fault, n-of, h-of, w-of, m-of, fault-of}
 use Rattle.std.specs.Iters.{counting}

@@ -11,13 +11,13 @@ use lib.ListN.{getD, length, replicate}
 use Rattle.std.specs.Joined.{joined}
 use Rattle.std.proofs.shelf.Lists.{length-append, length-replicate, replicate-append-replicate}
 use Rattle.std.proofs.shelf.Tests.{eqb-true, leb-true, ltb-true, lt-ltb, ne-eqb, cond-false, and-parts, or-cases, not-true, cases-eq, true≢false}
-use Rattle.plan_sheet.specs.Number.{spaces, right}
+use Rattle.columns.specs.Number.{spaces, right}
 use Rattle.plan_sheet.specs.Written.{group-line}
 use Rattle.plan.specs.Members.{members}
 use Rattle.plan_sheet.specs.Entries.{orderly, mask-of}
 use Rattle.std.specs.Iters.{counting}
 use Rattle.plan.specs.Every.{every}
-use Rattle.plan_sheet.proofs.Text.{length-right}
+use Rattle.columns.proofs.Text.{length-right}
 use Rattle.plan_sheet.proofs.Cells.{cell}
 use Rattle.plan.proofs.Tested.{every-at}
 

@@ -14,7 +14,7 @@ use Rattle.std.specs.Iters.{counting}
 use Rattle.sizes.specs.Sizes.{is-height, is-width}
 use Rattle.plan.specs.Every.{every}
 use Rattle.plan.specs.Shape.{is-trustees, is-groups, Within, Rising}
-use Rattle.plan_sheet.specs.Number.{number, unpadded}
+use Rattle.columns.specs.Number.{number, blank}
 use Rattle.plan_sheet.specs.Entries.{orderly, mask-of}
 
 -- a check that fails with a fault
@@ -82,9 +82,6 @@ pub record Headed (s : List ℕ) (n h w m : ℕ) : Type 0 where
   pub m-in : is-groups m ≡ true
 
 -- a group field: blank, or the number of one of n trustees
-abbrev pub blank : List ℕ → Bool
-blank bytes = eqb (length (unpadded bytes)) 0
-
 unfoldable pub entry-faults : ℕ → ℕ → ℕ → List ℕ → Option Refusal
 entry-faults n l f bytes = first (check (blank bytes || isSome (number bytes)) (NoNumber l f) ∷ check (blank bytes || (leb 1 (worth bytes) && leb (worth bytes) n)) (OutOfRange l f) ∷ [])
 

@@ -1,4 +1,3 @@
-pub mod Number
 pub mod Entries
 pub mod Refusals
 pub mod Checks

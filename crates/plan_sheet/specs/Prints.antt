@@ -16,7 +16,7 @@ use Rattle.plan.specs.Keys.{undealt}
 use Rattle.plan.specs.Groups.{group-of}
 use Rattle.plan_sheet.specs.declared.refusal.Refusal.{Refusal}
 use Rattle.plan_sheet.specs.declared.refusal.Refusal.the-variants.{Layout}
-use Rattle.plan_sheet.specs.Number.{right}
+use Rattle.columns.specs.Number.{right}
 use Rattle.plan_sheet.specs.Refusals.{number-of, line-of, field-of}
 use Rattle.plan_sheet.specs.Checks.{fault-of}
 use Rattle.plan_sheet.specs.Law.{plan-of}

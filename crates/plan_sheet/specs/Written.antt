@@ -7,7 +7,7 @@ use lib.ListN.{length}
 use Rattle.std.specs.Joined.{joined}
 use Rattle.plan.specs.Shape.{Shape}
 use Rattle.plan.specs.Members.{members}
-use Rattle.plan_sheet.specs.Number.{right, spaces}
+use Rattle.columns.specs.Number.{right, spaces}
 
 -- n, h, w and m in four fields of 6
 abbrev pub heading : ℕ → ℕ → ℕ → ℕ → List ℕ

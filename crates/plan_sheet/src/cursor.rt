@@ -6,14 +6,13 @@ ghost use lib.Dec.{ltb, leb, eqb};
 ghost use Rattle.std.specs.Options.{isSome, valueOr};
 ghost use Rattle.std.specs.Results.{Cases};
 ghost use Rattle.std.specs.declared.option.Option.the-variants.{Some, None};
-ghost use Rattle.plan_sheet.specs.Number.{number};
-ghost use Rattle.plan_sheet.specs.Checks.{field-at, worth, blank, entry-faults, quantity-fault, heading-faults, Headed, n-of};
+ghost use Rattle.columns.specs.Number.{number, blank};
+ghost use Rattle.plan_sheet.specs.Checks.{field-at, worth, entry-faults, quantity-fault, heading-faults, Headed, n-of};
 ghost use Rattle.plan_sheet.specs.Checks.{first, line-fault, mask-at, above-at, Lined};
 ghost use Rattle.std.specs.Iters.{counting};
 ghost use mathlib.Core.List.{map};
 ghost use Rattle.sizes.specs.Sizes.{levels, bits};
 ghost use mathlib.Core.Bool.{true, _&&_};
-use crate::numbers;
 use crate::quantities::Groups;
 use crate::quantities::GroupsQuantity;
 use crate::quantities::HeightQuantity;
@@ -48,7 +47,7 @@ impl Field<'_> {
         requires { ⌜ length (now (now self .bytes)) ≤ 9 ⌝ }
         ensures { λ r. ⌜ Cases r (λ v. number (now (now (self .entry) .bytes)) ≡ Some v) (λ e. (number (now (now (self .entry) .bytes)) ≡ None) × (e ≡ Refusal.NoNumber (now (self .entry) .line) (now (self .entry) .field))) ⌝ }
     {
-        let Some(value) = numbers::number(self.bytes) else {
+        let Some(value) = columns::number_in(self.bytes) else {
             return Err(Refusal::NoNumber {
                 line: self.line,
                 field: self.field,
@@ -60,7 +59,7 @@ impl Field<'_> {
     pub(crate) fn is_blank(&self) -> bool
         ensures { λ r. ⌜ r ≡ blank (now (now (self .entry) .bytes)) ⌝ }
     {
-        numbers::unpadded(self.bytes).is_empty()
+        columns::is_blank(self.bytes)
     }
 
     pub(crate) fn out_of_range(&self) -> Refusal

@@ -1,6 +1,5 @@
 // The plan sheet: a planner's text, how it is read, and what the program prints of it.
 mod cursor;
-mod numbers;
 mod prints;
 mod quantities;
 mod reader;

@@ -5,7 +5,7 @@ ghost use Prim.Native.Nat.{_+_, _<_, _≤_};
 ghost use Rattle.std.specs.Of.String.{string-bytes};
 ghost use Rattle.std.specs.Vec.{made};
 ghost use Rattle.plan.specs.View.{view};
-ghost use Rattle.plan_sheet.specs.Number.{right};
+ghost use Rattle.columns.specs.Number.{right};
 ghost use Rattle.plan_sheet.specs.Prints.{group-row, printed, refused};
 use crate::refusal::Refusal;
 use plan::Group;

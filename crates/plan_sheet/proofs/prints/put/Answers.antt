@@ -10,7 +10,7 @@ use lib.Utf8.{encode}
 use Rattle.std.specs.Of.String.{string-bytes}
 use Rattle.std.specs.Written.{decimal}
 use Rattle.std.proofs.shelf.Parts.{pushed}
-use Rattle.plan_sheet.specs.Number.{spaces, right}
+use Rattle.columns.specs.Number.{spaces, right}
 use Rattle.plan_sheet.proofs.Pushes.{made-pushed, space-pushed}
 use Rattle.plan_sheet.proofs.prints.put.Needs as need
 

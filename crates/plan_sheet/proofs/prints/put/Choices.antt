@@ -2,7 +2,7 @@ use mathlib.Core.Path.{_≡_}
 use mathlib.Core.List.{_++_}
 use Prim.Native.Nat.{_-_, _≤_}
 use Rattle.std.specs.Of.String.{string-bytes}
-use Rattle.plan_sheet.specs.Number.{spaces}
+use Rattle.columns.specs.Number.{spaces}
 use Rattle.plan_sheet.proofs.prints.put.Given as given
 
 abbrev pub Inv-loop : given.InvT-loop

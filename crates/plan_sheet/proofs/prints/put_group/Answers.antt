@@ -5,7 +5,7 @@ use lib.ListN.{length}
 use lib.Utf8.{encode}
 use Rattle.std.specs.Of.String.{string-bytes}
 use Rattle.plan.specs.Members.{members}
-use Rattle.plan_sheet.specs.Number.{right}
+use Rattle.columns.specs.Number.{right}
 use Rattle.plan_sheet.specs.Prints.{group-row}
 use Rattle.plan_sheet.proofs.Pushes.{made-pushed, field-pushed, four-pushed}
 use Rattle.plan_sheet.proofs.prints.put_group.Needs as need

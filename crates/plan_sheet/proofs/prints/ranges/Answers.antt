@@ -12,7 +12,7 @@ use Rattle.plan.specs.Keys.{undealt}
 use Rattle.plan.specs.Groups.{group-of}
 use Rattle.plan.specs.View.{view}
 use Rattle.plan.proofs.Found.{view-groups, group-found, group-missing, range-within, keys-most}
-use Rattle.plan_sheet.specs.Number.{right}
+use Rattle.columns.specs.Number.{right}
 use Rattle.plan_sheet.specs.Prints.{group-row, printed}
 use Rattle.plan_sheet.proofs.Fields.{groups-least}
 use Rattle.plan_sheet.proofs.Pushes.{rows-more, last-row, field-pushed}

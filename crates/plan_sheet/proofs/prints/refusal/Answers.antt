@@ -2,7 +2,7 @@ use mathlib.Core.Path.{ap, _∙_}
 use mathlib.Core.List.{[], _∷_, _++_}
 use lib.Utf8.{encode}
 use Rattle.std.specs.Of.String.{string-bytes}
-use Rattle.plan_sheet.specs.Number.{right}
+use Rattle.columns.specs.Number.{right}
 use Rattle.plan_sheet.specs.Refusals.{number-of, line-of, field-of}
 use Rattle.plan_sheet.specs.Prints.{refused}
 use Rattle.plan_sheet.proofs.Pushes.{field-pushed, three-pushed}

@@ -4,9 +4,9 @@ use native.Mathlib.Omega.{arith}
 use borrow.Author.Needs.{needs}
 use lib.ListN.{length}
 use Rattle.std.proofs.shelf.Lists.{at-drop-all, take-rest, drop-all}
-use Rattle.plan_sheet.specs.Number.{unpadded}
-use Rattle.plan_sheet.proofs.Fields.{space-more, space-ends}
-use Rattle.plan_sheet.proofs.numbers.unpadded.Needs as need
+use Rattle.columns.specs.Number.{unpadded}
+use Rattle.columns.proofs.Reading.{space-more, space-ends}
+use Rattle.columns.proofs.numbers.unpadded.Needs as need
 
 pub loop-i-again : need.loop-i-again
 loop-i-again c = c .loop-i .inv ∙ space-more (c .args .field .now) (c .loop-i .i) (omega arith) (c .if-column-ne32 .left)

@@ -4,10 +4,10 @@ ghost use mathlib.Core.Bool.{true};
 ghost use Prim.Native.Nat.{ℕ, _≤_, _<_, _^_};
 ghost use lib.ListN.{length};
 ghost use Rattle.std.specs.shelf.Text.{allDigits};
-ghost use Rattle.plan_sheet.specs.Number.{unpadded, number, plain, read-on};
+ghost use Rattle.columns.specs.Number.{unpadded, number-in, blank, plain, read-on};
 
 // What stands behind the leading spaces.
-pub(crate) fn unpadded(field: &[u8]) -> &[u8]
+fn unpadded(field: &[u8]) -> &[u8]
     ensures value { λ r. ⌜ now r ≡ unpadded (now (field .entry)) ⌝ }
     ensures len { λ r. ⌜ length (now r) ≤ length (now (field .entry)) ⌝ }
 {
@@ -54,14 +54,23 @@ fn value(digits: &[u8]) -> u32
 }
 
 // The number in a field of at most nine columns, if it is one.
-pub(crate) fn number(field: &[u8]) -> Option<u32>
-    requires { ⌜ length (now field) ≤ 9 ⌝ }
-    ensures { λ r. ⌜ r ≡ number (now (field .entry)) ⌝ }
+pub fn number_in(field: &[u8]) -> Option<u32>
+    ensures { λ r. ⌜ r ≡ number-in (now (field .entry)) ⌝ }
 {
+    if field.len() > 9 {
+        return None;
+    }
     let digits = unpadded(field);
     if plain(digits) {
         Some(value(digits))
     } else {
         None
     }
+}
+
+// Whether a field has nothing but spaces.
+pub fn is_blank(field: &[u8]) -> bool
+    ensures { λ r. ⌜ r ≡ blank (now (field .entry)) ⌝ }
+{
+    unpadded(field).is_empty()
 }

@@ -6,8 +6,8 @@ use native.Mathlib.Omega.{arith}
 use Rattle.std.specs.shelf.Text.{allDigits}
 use Rattle.std.proofs.shelf.Lists.{at-drop-all}
 use Rattle.std.proofs.shelf.Tests.{and-left}
-use Rattle.plan_sheet.proofs.Fields.{digits-more}
-use Rattle.plan_sheet.proofs.numbers.all_digits.Needs as need
+use Rattle.columns.proofs.Reading.{digits-more}
+use Rattle.columns.proofs.numbers.all_digits.Needs as need
 
 pub returns-then-not-is-ascii-digit : need.returns-then-not-is-ascii-digit
 returns-then-not-is-ascii-digit c = sym (c .loop-column .inv ∙ digits-more (c .args .columns .now) (c .loop-column .column-index) (omega arith) ∙ and-left _ _ (sym (c .if-not-is-ascii-digit .ensures tt .value)))

@@ -1,9 +1,9 @@
 use mathlib.Core.Path.{_≡_, refl, sym, ap, _∙_}
 use native.Mathlib.Omega.{arith}
 use Rattle.std.proofs.shelf.Lists.{at-drop-all}
-use Rattle.plan_sheet.specs.Number.{read-on}
-use Rattle.plan_sheet.proofs.Fields.{digit-next, read-more, ten-more, ten-below}
-use Rattle.plan_sheet.proofs.numbers.value.Needs as need
+use Rattle.columns.specs.Number.{read-on}
+use Rattle.columns.proofs.Reading.{digit-next, read-more, ten-more, ten-below}
+use Rattle.columns.proofs.numbers.value.Needs as need
 
 pub mul-value : need.mul-value
 mul-value c = omega (arith, ten-below (c .loop-digit .digit-index) (c .loop-digit .value) (c .loop-digit .inv .2) (omega arith))

@@ -18,7 +18,7 @@ use Rattle.std.proofs.shelf.Numerals.{Numerals, numerals-by-fold, tells-allDigi
 use Rattle.std.proofs.shelf.Decimals.{decimal-value, digits-decimal, value-decimal, decimal-some, first-decimal, length-decimal-le, decimal-digit}
 use Rattle.std.proofs.shelf.Lists.{length-append, length-replicate}
 use Rattle.std.proofs.shelf.Tests.{eq-eqb, ne-eqb, eqb-true, eqb-false, leb-true, ltb-true, lt-ltb, le-leb, cond-true, cond-false, cond-both, and-parts, and-from, or-cases, or-left, or-right, not-true, not-from-false, cases-bool, cases-eq, cases-lt}
-use Rattle.plan_sheet.specs.Number.{spaces, right, unpadded, read-on, plain, number}
+use Rattle.columns.specs.Number.{spaces, right, unpadded, read-on, plain, number}
 
 pub own : Numerals (λ ds. allDigits ds ≡ true) (read-on 0)
 own = numerals-by-fold _ tells-allDigits read-on (search needs)
