@@ -1,0 +1,4 @@
+pub mod Buffers
+pub mod Chaining
+pub mod Fronts
+pub mod Masks

@@ -1,0 +1,1 @@
+//! What a lane of a row of vectors holds: definitions and lemmas for code over `std::simd`.
