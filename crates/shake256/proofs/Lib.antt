@@ -1,0 +1,4 @@
+pub mod Adding
+pub mod Ending
+pub mod Lanes
+pub mod Whole
