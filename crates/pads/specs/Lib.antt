@@ -1,0 +1,4 @@
+pub mod Labels
+pub mod Source
+pub mod Choices
+pub mod Books
