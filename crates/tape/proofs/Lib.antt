@@ -1,0 +1,4 @@
+pub mod Cutting
+pub mod Writing
+pub mod Taping
+pub mod Overwriting
