@@ -58,11 +58,54 @@ impl<'t> Block<'t> {
         None
     }
 
+    // A value that the block has to have.
+    pub(crate) fn required(&self, name: &str) -> Result<&'t str, AnyError> {
+        match self.text(name) {
+            Some(text) => Ok(text),
+            None => Err("a vector lacks a value".into()),
+        }
+    }
+
+    pub(crate) fn number(&self, name: &str) -> Result<u32, AnyError> {
+        Ok(self.required(name)?.parse::<u32>()?)
+    }
+
+    // Numbers with a space between each two.
+    pub(crate) fn numbers(&self, heap: Global, name: &str) -> Result<Vec<u32>, AnyError> {
+        let mut numbers = Vec::new(heap);
+        for word in self.required(name)?.split_whitespace() {
+            numbers.push(word.parse::<u32>()?)?;
+        }
+        Ok(numbers)
+    }
+
+    // The message: given in hexadecimal, or as one byte and how often it comes.
+    pub(crate) fn message(&self, heap: Global) -> Result<Vec<u8>, AnyError> {
+        if self.text("message").is_some() {
+            return self.bytes(heap, "message");
+        }
+        let fill = self.bytes(heap, "message_fill")?;
+        let length = self.number("message_length")?;
+        let mut message = Vec::new(heap);
+        for _ in 0..length {
+            message.push(fill.first().copied().unwrap_or(0))?;
+        }
+        Ok(message)
+    }
+
+    // Exactly 32 bytes.
+    pub(crate) fn row(&self, heap: Global, name: &str) -> Result<[u8; 32], AnyError> {
+        let bytes = self.bytes(heap, name)?;
+        let mut row = [0u8; 32];
+        if bytes.len() != 32 {
+            return Err("a value has not 32 bytes".into());
+        }
+        row.copy_from_slice(&bytes);
+        Ok(row)
+    }
+
     pub(crate) fn bytes(&self, heap: Global, name: &str) -> Result<Vec<u8>, AnyError> {
-        let Some(text) = self.text(name) else {
-            return Err("a vector lacks a value".into());
-        };
-        match hex::decode(heap, text)? {
+        match hex::decode(heap, self.required(name)?)? {
             Some(bytes) => Ok(bytes),
             None => Err("a value is not hexadecimal".into()),
         }

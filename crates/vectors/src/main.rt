@@ -1,14 +1,34 @@
 // Runs every vector file that it knows and finds in a folder, and compares.
 mod blocks;
+mod hashes;
 mod hex;
+mod pads_and_books;
 mod plans;
+mod signatures;
 mod suite;
+mod tapes;
 
+use hashes::Digests;
+use hashes::DigestsSuite;
+use hashes::Macs;
+use hashes::MacsSuite;
+use pads_and_books::Books;
+use pads_and_books::BooksSuite;
+use pads_and_books::HmacSources;
+use pads_and_books::HmacSourcesSuite;
 use plans::PlanSheets;
 use plans::PlanSheetsSuite;
+use signatures::Digits;
+use signatures::DigitsSuite;
+use signatures::Signatures;
+use signatures::SignaturesSuite;
+use signatures::Verdicts;
+use signatures::VerdictsSuite;
 use std::env;
 use std::error::AnyError;
 use suite::Totals;
+use tapes::Tapes;
+use tapes::TapesSuite;
 
 const HELP: &str = "usage: vectors [FOLDER]
 
@@ -21,6 +41,17 @@ in crates/vectors/data. It ends with status 1 if a case is wrong or no file is f
 fn run_all(rt: &LibcRuntime, folder: &str) -> Result<Totals, AnyError> {
     let mut totals = Totals::new();
     totals.run(rt, folder, "plans.txt", PlanSheets)?;
+    totals.run(rt, folder, "hash.txt", Digests)?;
+    totals.run(rt, folder, "hmac.txt", Macs)?;
+    totals.run(rt, folder, "digits.txt", Digits)?;
+    totals.run(rt, folder, "lms-rfc8554.txt", Signatures::new())?;
+    totals.run(rt, folder, "lms-sha256.txt", Signatures::new())?;
+    totals.run(rt, folder, "lms-shake256.txt", Signatures::new())?;
+    totals.run(rt, folder, "lms-long-messages.txt", Signatures::new())?;
+    totals.run(rt, folder, "verify.txt", Verdicts)?;
+    totals.run(rt, folder, "tape.txt", Tapes)?;
+    totals.run(rt, folder, "pads.txt", HmacSources)?;
+    totals.run(rt, folder, "book.txt", Books::new())?;
     Ok(totals)
 }
 
