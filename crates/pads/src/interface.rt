@@ -15,7 +15,7 @@ pub trait Pads {
     fn holds(&self, key: u32) -> bool
         ensures { λ r. ⌜ r ≡ source (now (self .entry)) .held key ⌝ };
 
-    // The pad of a label; of a key that is not held, the zero row.
+    // The pad of a label; it is asked for where the key is held.
     fn pad(&self, label: Label) -> Row
         ensures { λ r. ⌜ r ≡ source (now (self .entry)) .pad label ⌝ };
 
