@@ -1,5 +1,7 @@
 //! Measures both hashes: bulk, one block at a time, eight messages at once, and HMAC; and trees of LMS at width 8: root, signing, verifying.
 //! Times go to standard error. To standard output goes a digest that depends on all that was computed.
+#![tactic(auto)]
+
 use anyhow::anyhow;
 use hash::Hash;
 use sha256::Hasher as Sha256;

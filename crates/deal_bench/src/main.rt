@@ -1,5 +1,7 @@
 //! Measures dealing: the tree of a plan at width 4, and its whole public table over SHA-256.
 //! Times go to standard error. To standard output goes a digest of the table.
+#![tactic(auto)]
+
 use anyhow::anyhow;
 use hash::Hash;
 use sha256::Hasher as Sha256;

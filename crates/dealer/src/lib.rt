@@ -1,4 +1,6 @@
 // The dealer: the root, key sheets, the public table and signatures of a plan, from one identifier and one seed.
+#![tactic(auto)]
+
 mod dealers;
 mod refusal;
 mod sheets;

@@ -1,4 +1,6 @@
 //! An incremental hash of 32 bytes, and HMAC over any such hash.
+#![tactic(auto)]
+
 ghost use Rattle.std.specs.Prelude.{◌≡◌, ℕ, ◌^◌, ◌<◌, ◌≤◌, List, [], ◌++◌, length, take, slice_index_or};
 ghost use Rattle.hash.specs.Bytes.{Bytes};
 

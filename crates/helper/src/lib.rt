@@ -1,4 +1,6 @@
 // Helpers: they lend rows of the public table while a signature is put together.
+#![tactic(auto)]
+
 mod cache;
 mod choice;
 mod entry;

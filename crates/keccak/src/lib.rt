@@ -1,4 +1,6 @@
 //! Keccak-f[1600] (FIPS 202, section 3), on one state and on two at once.
+#![tactic(auto)]
+
 mod constants;
 mod pairs;
 mod scalar;

@@ -1,4 +1,6 @@
 // The rows of a key's part of the public table, and where each part lies in the table.
+#![tactic(auto)]
+
 mod part;
 mod places;
 mod section;

@@ -1,4 +1,6 @@
 // Ledgers: which one-time keys are spent, and how much room is left.
+#![tactic(auto)]
+
 mod bitmap;
 mod choice;
 mod free;

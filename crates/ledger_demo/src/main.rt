@@ -1,4 +1,6 @@
 // Shows a tape made, spent on, opened again and refused when damaged, and a mirror of a tape and a bitmap.
+#![tactic(auto)]
+
 use ledger::{Bitmap, Ledger, Mirror, next_free};
 use sizes::Height;
 use std::{io, str};

@@ -1,4 +1,6 @@
 // LM-OTS, the one-time signatures of RFC 8554, over any hash.
+#![tactic(auto)]
+
 mod deal;
 mod digits;
 mod keys;

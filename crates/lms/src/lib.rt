@@ -1,4 +1,6 @@
 // LMS, the tree of one-time keys of RFC 8554, over any hash.
+#![tactic(auto)]
+
 mod codes;
 mod growing;
 mod kept;

@@ -1,4 +1,6 @@
 // Grows a small tree, signs a message with one of its keys, and shows the verdicts on the signature and on an altered one.
+#![tactic(auto)]
+
 use lms::{Tree, verify};
 use rows::{Identifier, Seed};
 use sha256::Hasher;

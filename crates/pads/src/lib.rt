@@ -1,4 +1,6 @@
 // Pads: the rows by which a trustee's share of a key is hidden.
+#![tactic(auto)]
+
 mod book;
 mod choice;
 mod hmac_pads;

@@ -1,4 +1,6 @@
 // A plan: which groups of trustees may sign, and which one-time keys each group owns.
+#![tactic(auto)]
+
 mod group;
 mod lookup;
 mod making;

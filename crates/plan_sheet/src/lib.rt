@@ -1,4 +1,6 @@
 // The plan sheet: a planner's text, how it is read, and what the program prints of it.
+#![tactic(auto)]
+
 mod cursor;
 mod laws;
 mod prints;

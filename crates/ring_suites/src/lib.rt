@@ -1,4 +1,6 @@
 // Suites over the dealer, the public table and its helper.
+#![tactic(auto)]
+
 mod deal;
 mod lending;
 mod refusals;

@@ -1,4 +1,6 @@
 // Runs every vector file on dealt keys that it knows and finds in a folder, and compares.
+#![tactic(auto)]
+
 use ring_suites::{Refusals, Splits, Tables};
 use std::env;
 use vector_files::Totals;

@@ -1,4 +1,6 @@
 // Reads a plan sheet from standard input, and prints which keys each group owns, or what is wrong with the sheet.
+#![tactic(auto)]
+
 use plan_sheet::{MOST_BYTES, report_on};
 use std::io;
 use std::io::Read;

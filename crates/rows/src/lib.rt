@@ -1,4 +1,6 @@
 // Rows of 32 bytes, and the two strings that a tree is made of.
+#![tactic(auto)]
+
 mod bytes;
 mod identifier;
 mod seed;

@@ -1,4 +1,6 @@
 //! SHA-256 (FIPS 180-4).
+#![tactic(auto)]
+
 ghost use Rattle.std.specs.Prelude.{◌≡◌};
 ghost use Rattle.sha256.specs.Fips180.{sha256 as standard};
 

@@ -1,4 +1,6 @@
 //! SHAKE256 (FIPS 202) with 32 bytes of output.
+#![tactic(auto)]
+
 ghost use Rattle.std.specs.Prelude.{◌≡◌};
 ghost use Rattle.shake256.specs.Fips202.{shake256 as standard};
 

@@ -1,4 +1,6 @@
 // One task from beginning to end: reads a plan sheet from standard input, deals the plan, and prints what was dealt.
+#![tactic(auto)]
+
 mod deals;
 mod hex;
 

@@ -1,4 +1,6 @@
 // The two sizes of a tree: its height, and the width of the digits that its one-time keys sign.
+#![tactic(auto)]
+
 mod height;
 mod width;
 

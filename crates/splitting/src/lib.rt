@@ -1,4 +1,6 @@
 // Splitting a key sheet among the members of the group that owns the key.
+#![tactic(auto)]
+
 mod checks;
 mod labelled;
 mod masking;

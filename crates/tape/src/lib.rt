@@ -1,4 +1,6 @@
 // The tape: a ledger on borrowed bytes, with a line for each key that was spent.
+#![tactic(auto)]
+
 mod lines;
 mod refusal;
 mod spending;

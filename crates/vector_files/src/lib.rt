@@ -1,4 +1,6 @@
 // Vector files: lines of names and values in blocks, suites of cases over them, and the count.
+#![tactic(auto)]
+
 mod blocks;
 mod hash_name;
 mod hex;

@@ -1,4 +1,6 @@
 // Runs every vector file that it knows and finds in a folder, and compares.
+#![tactic(auto)]
+
 mod hashes;
 mod pads_and_books;
 mod plans;

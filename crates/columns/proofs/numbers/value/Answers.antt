@@ -4,14 +4,14 @@ use Rattle.columns.specs.Number.{read_on}
 use Rattle.columns.proofs.Reading.{digit_next, read_more, ten_more, ten_below}
 use Rattle.columns.proofs.numbers.value.Goals as goal
 
-pub overflow-mul-value : goal.overflow-mul-value
-overflow-mul-value c = omega (arith, ten_below c.loop-digit.digit-index c.loop-digit.value c.loop-digit.invariant.2 (omega arith))
+pub overflow_mul-value : goal.overflow_mul-value
+overflow_mul-value c = omega (arith, ten_below c.loop-digit.digit-index c.loop-digit.value c.loop-digit.invariant.2 (omega arith))
 
-pub overflow-sub-value : goal.overflow-sub-value
-overflow-sub-value c = (digit_next c.args.digits.now c.loop-digit.digit-index (omega arith) c.loop-digit.invariant.0).0.0
+pub overflow_sub-value : goal.overflow_sub-value
+overflow_sub-value c = (digit_next c.args.digits.now c.loop-digit.digit-index (omega arith) c.loop-digit.invariant.0).0.0
 
-pub overflow-add-value : goal.overflow-add-value
-overflow-add-value c =
+pub overflow_add-value : goal.overflow_add-value
+overflow_add-value c =
     let d = digit_next c.args.digits.now c.loop-digit.digit-index (omega arith) c.loop-digit.invariant.0 in
     omega (arith, d.0, ten_below c.loop-digit.digit-index c.loop-digit.value c.loop-digit.invariant.2 (omega arith))
 

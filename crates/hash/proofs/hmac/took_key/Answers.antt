@@ -6,9 +6,9 @@ pub loop-left-init : goal.loop-left-init
 loop-left-init g c = (
   search rules,
   c.feed.ensures
-      ∙ ap (λ s. g.H.Hash.fed s c.masked-key.result) c.start-hash.ensures
+      ∙ ap (λ s. g.H.Hash.fed s c.masked_key.result) c.start-hash.ensures
       ∙ ap (g.H.Hash.fed g.H.Hash.first)
-      (c.masked-key.ensures ∙ begun_none c.args.mask c.args.key.now (g.H.Hash.block - 32 - (c.block-len-left.result - 32)) (omega arith)),
+      (c.masked_key.ensures ∙ begun_none c.args.mask c.args.key.now (g.H.Hash.block - 32 - (c.block_len-left.result - 32)) (omega arith)),
 )
 
 pub loop-left-preserved : goal.loop-left-preserved

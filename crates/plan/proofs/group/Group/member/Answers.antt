@@ -3,16 +3,16 @@ use Rattle.std.proofs.lemmas.Bool.{and_parts, cases_eq, cases_lt, leb-true, fals
 use Rattle.plan.specs.Members.{members, place}
 use Rattle.plan.proofs.group.Group.member.Goals as goal
 
-pub returns-then-stands-at : goal.returns-then-stands-at
-returns-then-stands-at c =
-    let s = c.if-stands-at.ensures in
+pub returns-then-stands_at : goal.returns-then-stands_at
+returns-then-stands_at c =
+    let s = c.if-stands_at.ensures in
     let there = s.seats.placed c.loop-trustee.trustee c.args.position (s.answer.0 refl) in
     (there.0, sym there.1, c.loop-trustee.invariant.0, omega arith)
 
 pub loop-trustee-preserved : goal.loop-trustee-preserved
 loop-trustee-preserved c =
     let n = c.loop-trustee.trustee in
-    let s = c.if-stands-at.ensures in (
+    let s = c.if-stands_at.ensures in (
       omega arith,
       (λ t low l e.
           ⊎_elim

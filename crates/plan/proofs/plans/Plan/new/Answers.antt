@@ -7,10 +7,10 @@ use Rattle.plan.specs.View.{shaped}
 use Rattle.plan.proofs.Copied.{room, within, rising, valid_shape}
 use Rattle.plan.proofs.plans.Plan.new.Goals as goal
 
-pub invariant-of-result : goal.invariant-of-result
-invariant-of-result c =
+pub invariant_of-result : goal.invariant_of-result
+invariant_of-result c =
     let masks = c.args.masks.now in
-    let copied = c.copy-from-slice.ensures.after in
+    let copied = c.copy_from_slice.ensures.after in
     let fine = c.if-not-rise.ensures.0 refl in
     let limit : (1 * 2 ^ c.args.trustees) % 2 ^ 16 ≡ 2 ^ c.args.trustees = one_shl c.args.trustees 16 (omega arith) in (
       and_from _ _ (le-leb 1 c.args.trustees (omega arith)) (le-leb c.args.trustees 8 (omega arith)),
@@ -19,8 +19,8 @@ invariant-of-result c =
         (
           omega (arith, c.keys.ensures),
           (
-            room masks c.copy-from-slice.new.self _ copied,
-            (within masks c.copy-from-slice.new.self _ copied _ _ limit fine.0, (rising masks c.copy-from-slice.new.self _ copied fine.1, tt)),
+            room masks c.copy_from_slice.new.self _ copied,
+            (within masks c.copy_from_slice.new.self _ copied _ _ limit fine.0, (rising masks c.copy_from_slice.new.self _ copied fine.1, tt)),
           ),
         ),
       ),
@@ -30,8 +30,8 @@ pub returns : goal.returns
 returns c =
     let masks = c.args.masks.now in
     let fine = c.if-not-rise.ensures.0 refl in
-    let copied = c.copy-from-slice.ensures.after in
+    let copied = c.copy_from_slice.ensures.after in
     let few : length masks ≤ 2 ^ levels c.args.height = omega (arith, c.keys.ensures) in (
       valid_shape c.args.trustees c.args.height c.args.width masks _ (omega arith) (omega arith) (omega arith) (omega arith) few (one_shl c.args.trustees 16 (omega arith)) fine.0 fine.1,
-      ap (shaped c.args.trustees c.args.height c.args.width) (take_at c.copy-from-slice.new.self _ (length masks) (ap length copied) ∙ copied),
+      ap (shaped c.args.trustees c.args.height c.args.width) (take_at c.copy_from_slice.new.self _ (length masks) (ap length copied) ∙ copied),
     )
