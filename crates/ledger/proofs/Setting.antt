@@ -47,13 +47,13 @@ or_one x lt = ⊎_elim (λ e. rw e) (λ ne. let e : x ≡ 0 = omega arith in rw 
 or_none : (x : ℕ) → x < 2 → eqb (bit_or x 0) 1 ≡ eqb x 1
 or_none x lt = ⊎_elim (λ e. rw e) (λ ne. let e : x ≡ 0 = omega arith in rw e) (cases_eq x 1)
 
-bit_or : (x y j : ℕ) → (bit_or x y / 2 ^ j) % 2 ≡ bit_or ((x / 2 ^ j) % 2) ((y / 2 ^ j) % 2)
-bit_or x y j = ap (λ z. z % 2) (or_shr x y j) ∙ or_mod (x / 2 ^ j) (y / 2 ^ j) 1
+bit_of_or : (x y j : ℕ) → (bit_or x y / 2 ^ j) % 2 ≡ bit_or ((x / 2 ^ j) % 2) ((y / 2 ^ j) % 2)
+bit_of_or x y j = ap (λ z. z % 2) (or_shr x y j) ∙ or_mod (x / 2 ^ j) (y / 2 ^ j) 1
 
 set_in_byte : (x b j : ℕ) → eqb ((bit_or x (2 ^ b) / 2 ^ j) % 2) 1 ≡ (eqb j b || eqb ((x / 2 ^ j) % 2) 1)
 set_in_byte x b j =
     let lt : (x / 2 ^ j) % 2 < 2 = mod-lt (x / 2 ^ j) (omega arith) in
-    ap (λ z. eqb z 1) (bit_or x (2 ^ b) j) ∙
+    ap (λ z. eqb z 1) (bit_of_or x (2 ^ b) j) ∙
     ⊎_elim
     (λ e. let s : (2 ^ b / 2 ^ j) % 2 ≡ 1 = ap (λ z. (2 ^ b / 2 ^ z) % 2) e ∙ pow_bit_same b in
     ap (λ z. eqb (bit_or ((x / 2 ^ j) % 2) z) 1) s ∙ or_one _ lt ∙ ap (λ t. t || eqb ((x / 2 ^ j) % 2) 1) (sym (eq-eqb j b e)))

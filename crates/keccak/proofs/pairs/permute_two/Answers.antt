@@ -18,9 +18,9 @@ loop-t-preserved c = (
       ∙ ap (set (lane i c.chi.result) 0)
       (c.xor.ensures i h
       ∙ ap (bit_xor (get_or (get_or c.chi.result 0 []) i 0)) (c.splat.ensures i h)
-      ∙ ap (λ u. bit_xor u c.round-constant.result) (get_or_lane_25 i c.chi.result 0 (search rules) (omega arith)))
-      ∙ one_round (lane i c.loop-t.a) (lane i c.args.a.now) (lane i c.chi.result) c.loop-t.t c.round-constant.result (omega arith) c.round-constant.ensures (c.loop-t.invariant.1 i h)
-      (c.chi.ensures i h ∙ ap chi (c.rho-pi.ensures i h ∙ ap (λ u. pi (rho u)) (c.theta.ensures i h))),
+      ∙ ap (λ u. bit_xor u c.round_constant.result) (get_or_lane_25 i c.chi.result 0 (search rules) (omega arith)))
+      ∙ one_round (lane i c.loop-t.a) (lane i c.args.a.now) (lane i c.chi.result) c.loop-t.t c.round_constant.result (omega arith) c.round_constant.ensures (c.loop-t.invariant.1 i h)
+      (c.chi.ensures i h ∙ ap chi (c.rho_pi.ensures i h ∙ ap (λ u. pi (rho u)) (c.theta.ensures i h))),
 )
 
 pub returns : goal.returns

@@ -9,8 +9,8 @@ loop-t-init c = (search rules, sym (rounds_none _))
 pub loop-t-preserved : goal.loop-t-preserved
 loop-t-preserved c = (
   search rules,
-  one_round c.loop-t.a c.args.a.now c.chi.result c.loop-t.t c.round-constant.result (omega arith) c.round-constant.ensures c.loop-t.invariant.1
-      (c.chi.ensures ∙ ap chi (c.rho-pi.ensures ∙ ap (λ u. pi (rho u)) c.theta.ensures)),
+  one_round c.loop-t.a c.args.a.now c.chi.result c.loop-t.t c.round_constant.result (omega arith) c.round_constant.ensures c.loop-t.invariant.1
+      (c.chi.ensures ∙ ap chi (c.rho_pi.ensures ∙ ap (λ u. pi (rho u)) c.theta.ensures)),
 )
 
 pub returns : goal.returns

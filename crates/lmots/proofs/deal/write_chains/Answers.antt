@@ -13,8 +13,8 @@ loop-j-init g c = (
         λ k h. none k,
         λ k j h o z.
             let e : j ≡ 0 = omega arith in
-            ap (λ n. row_at ((c.args.first + k) * 2 ^ bits c.args.width + n) c.write-lanes.new.out) e
-            ∙ c.write-lanes.ensures.new k h o ∙ none k ∙ ap (λ n. chain g.H.Hash.hashed I q (c.args.first + k) 0 n (x k)) (sym e),
+            ap (λ n. row_at ((c.args.first + k) * 2 ^ bits c.args.width + n) c.write_lanes.new.out) e
+            ∙ c.write_lanes.ensures.new k h o ∙ none k ∙ ap (λ n. chain g.H.Hash.hashed I q (c.args.first + k) 0 n (x k)) (sym e),
       ),
   λ i j h o. refl,
 )
@@ -26,10 +26,10 @@ loop-j-preserved g c = (
       let J = c.loop-j.j in
       let x = λ (k : ℕ). get_or c.starts-rows.result k [] in
       let back : J - 1 + 1 ≡ J = omega arith in
-      let stepped : (k : ℕ) → k < 8 → get_or c.step-lanes-rows.result k [] ≡ chain g.H.Hash.hashed I q (c.args.first + k) 0 J (x k) =
+      let stepped : (k : ℕ) → k < 8 → get_or c.step_lanes-rows.result k [] ≡ chain g.H.Hash.hashed I q (c.args.first + k) 0 J (x k) =
       λ k h.
       lane_step g.H.Hash.hashed g.H.Hash.first g.H.Hash.fed g.H.Hash.closed m.joined m.whole I q (c.args.first + k) (J - 1) (get_or c.loop-j.rows k []) s (ps k h)
-      (c.step-lanes-rows.ensures k h)
+      (c.step_lanes-rows.ensures k h)
       ∙ ap (λ t. g.H.Hash.hashed (I ++ u32str q ++ u16str (c.args.first + k) ++ u8str (J - 1) ++ t)) ((c.loop-j.invariant.0 I q s ps).0 k h)
       ∙ walk_more g.H.Hash.hashed I q (c.args.first + k) (x k) (J - 1)
       ∙ ap (λ n. chain g.H.Hash.hashed I q (c.args.first + k) 0 n (x k)) back in
@@ -37,12 +37,12 @@ loop-j-preserved g c = (
         λ k h. stepped k h ∙ ap (λ n. chain g.H.Hash.hashed I q (c.args.first + k) 0 n (x k)) e,
         λ k j h o.
             below_more
-            (λ j. row_at ((c.args.first + k) * 2 ^ bits c.args.width + j) c.write-lanes-in-loop-j.new.out ≡ chain g.H.Hash.hashed I q (c.args.first + k) 0 j (x k)) J
-            (λ j z. c.write-lanes-in-loop-j.ensures.old (c.args.first + k) j (omega arith) (inr (λ e. omega arith)) ∙ (c.loop-j.invariant.0 I q s ps).1 k j h o z)
-            (c.write-lanes-in-loop-j.ensures.new k h o ∙ stepped k h)
+            (λ j. row_at ((c.args.first + k) * 2 ^ bits c.args.width + j) c.write_lanes-in-loop-j.new.out ≡ chain g.H.Hash.hashed I q (c.args.first + k) 0 j (x k)) J
+            (λ j z. c.write_lanes-in-loop-j.ensures.old (c.args.first + k) j (omega arith) (inr (λ e. omega arith)) ∙ (c.loop-j.invariant.0 I q s ps).1 k j h o z)
+            (c.write_lanes-in-loop-j.ensures.new k h o ∙ stepped k h)
             j,
       ),
-  λ i j h o. c.write-lanes-in-loop-j.ensures.old i j o (inl h) ∙ c.loop-j.invariant.1 i j h o,
+  λ i j h o. c.write_lanes-in-loop-j.ensures.old i j o (inl h) ∙ c.loop-j.invariant.1 i j h o,
 )
 
 pub returns : goal.returns
@@ -52,7 +52,7 @@ returns g c =
     let s = c.behind-head.ensures in
     record {
       new = λ l j h o z.
-          (c.loop-j.invariant.0 I a.q s c.places-of-chains-places.ensures).1 l j h o (omega arith)
-          ∙ ap (chain g.H.Hash.hashed I a.q (a.first + l) 0 j) (c.starts-rows.ensures I l a.q (a.first + l) s h (c.places-of-chains-places.ensures l h));
-      old = λ i j h o. c.loop-j.invariant.1 i j h o ∙ c.write-lanes.ensures.old i j o (inl h);
+          (c.loop-j.invariant.0 I a.q s c.places_of_chains-places.ensures).1 l j h o (omega arith)
+          ∙ ap (chain g.H.Hash.hashed I a.q (a.first + l) 0 j) (c.starts-rows.ensures I l a.q (a.first + l) s h (c.places_of_chains-places.ensures l h));
+      old = λ i j h o. c.loop-j.invariant.1 i j h o ∙ c.write_lanes.ensures.old i j o (inl h);
     }

@@ -12,11 +12,11 @@ loop-b-preserved g c i j h o z =
     let a = c.args in
     let f = 8 * c.loop-b.b in
     elim (cases_lt i f) [
-      | inl l ↦ c.write-chains.ensures.old i j l z ∙ c.loop-b.invariant i j l o z
+      | inl l ↦ c.write_chains.ensures.old i j l z ∙ c.loop-b.invariant i j l o z
       | inr l ↦
           let e : f + (i - f) ≡ i = omega arith in
-          ap (λ n. row_at (n * 2 ^ bits a.width + j) c.write-chains.new.out) (sym e)
-          ∙ c.write-chains.ensures.new (i - f) j (omega arith) (omega arith) z
+          ap (λ n. row_at (n * 2 ^ bits a.width + j) c.write_chains.new.out) (sym e)
+          ∙ c.write_chains.ensures.new (i - f) j (omega arith) (omega arith) z
           ∙ ap (λ n. X g.H.Hash.hashed a.id.bytes a.seed.bytes a.q n j) e
     ]
 
@@ -24,7 +24,7 @@ pub returns : goal.returns
 returns g c =
     let a = c.args in
     let w = bits a.width in
-    let e = ap₂ (λ m n. 32 * (m * n)) c.chain-count-count.ensures.value c.position-count.ensures.value in
+    let e = ap₂ (λ m n. 32 * (m * n)) c.chain_count-count.ensures.value c.position_count.ensures.value in
     let l : length a.out.now ≡ 32 * (p w * 2 ^ w) = omega arith in (
       l,
       cells_whole (2 ^ w) (p w) (X g.H.Hash.hashed a.id.bytes a.seed.bytes a.q) c.loop-b.out (pow_pos w) (c.loop-b.auto.out ∙ l)

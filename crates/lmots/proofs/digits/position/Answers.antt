@@ -14,15 +14,15 @@ returns-then-i-bits c =
     let h = past_string c.args.i w (known c.args.width) (omega arith) in
     sym (coef_past w (d ++ u16str (checksum w d)) c.args.i (omega (arith, string_length w d c.told-digest, h)))
 
-pub digit-at-requires : goal.digit-at-requires
-digit-at-requires c =
+pub digit_at-requires : goal.digit_at-requires
+digit_at-requires c =
     let w = bits c.args.width in
     let d = c.args.digest.now in
     let e = ap (λ n. 272 / n) c.bits.ensures in
     let h = in_bytes c.args.i w (known c.args.width) (omega arith) in
-    let l : length c.with-checksum.result ≡ 34 = ap length c.with-checksum.ensures ∙ string_length w d c.told-digest in
+    let l : length c.with_checksum.result ≡ 34 = ap length c.with_checksum.ensures ∙ string_length w d c.told-digest in
     record { small = omega arith; inside = rw l h.1 }
 
 pub returns : goal.returns
 unfolding digit
-returns c = c.digit-at.ensures ∙ ap (λ s. coef (bits c.args.width) s c.args.i) c.with-checksum.ensures
+returns c = c.digit_at.ensures ∙ ap (λ s. coef (bits c.args.width) s c.args.i) c.with_checksum.ensures

@@ -10,7 +10,7 @@ pub loop-i-init : goal.loop-i-init
 loop-i-init g c = fed_none g.H.Hash.first g.H.Hash.fed g.met.H.Hash.joined _ _ c.opened-key.ensures
 
 pub walk-end-requires : goal.walk-end-requires
-walk-end-requires g c = omega (arith, coef_below (bits c.args.width) c.with-checksum-digits.result c.loop-i.i)
+walk-end-requires g c = omega (arith, coef_below (bits c.args.width) c.with_checksum-digits.result c.loop-i.i)
 
 pub loop-i-preserved : goal.loop-i-preserved
 unfolding digit
@@ -20,11 +20,11 @@ loop-i-preserved g c =
     let D = a.digest.now in
     let i = c.loop-i.i in
     let f = λ (i : ℕ). chain g.H.Hash.hashed a.id.bytes a.q i (digit w D i) (2 ^ w - 1 - digit w D i) (row_at i a.rows.now) in
-    let d : c.digit-at.result ≡ digit w D i = c.digit-at.ensures ∙ ap (λ s. coef w s i) c.with-checksum-digits.ensures in
+    let d : c.digit_at.result ≡ digit w D i = c.digit_at.ensures ∙ ap (λ s. coef w s i) c.with_checksum-digits.ensures in
     let o : 32 * i + 32 ≤ length a.rows.now = omega arith in
     let z : c.walk-end.result ≡ f i =
     c.walk-end.ensures
-    ∙ (λ j. chain g.H.Hash.hashed a.id.bytes a.q i (d j) (c.last-position-top.ensures j - d j) (c.row-at-y.ensures.inside o j)) in
+    ∙ (λ j. chain g.H.Hash.hashed a.id.bytes a.q i (d j) (c.last_position-top.ensures j - d j) (c.row_at-y.ensures.inside o j)) in
     fed_more g.H.Hash.first g.H.Hash.fed g.met.H.Hash.joined (a.id.bytes ++ u32str a.q ++ u16str 0x8080) f i c.feed.ensures c.loop-i.invariant z
 
 pub returns : goal.returns

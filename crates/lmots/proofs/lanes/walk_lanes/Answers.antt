@@ -11,7 +11,7 @@ pub loop-j-preserved : goal.loop-j-preserved
 loop-j-preserved g c I k q i s l p =
     let m = g.met.H.Hash in
     let j = c.loop-j.j in
-    lane_step g.H.Hash.hashed g.H.Hash.first g.H.Hash.fed g.H.Hash.closed m.joined m.whole I q i j (get_or c.loop-j.rows k []) s p (c.step-lanes-rows.ensures k l)
+    lane_step g.H.Hash.hashed g.H.Hash.first g.H.Hash.fed g.H.Hash.closed m.joined m.whole I q i j (get_or c.loop-j.rows k []) s p (c.step_lanes-rows.ensures k l)
     ∙ ap (λ t. g.H.Hash.hashed (I ++ u32str q ++ u16str i ++ u8str j ++ t)) (c.loop-j.invariant I k q i s l p)
     ∙ walk_more g.H.Hash.hashed I q i (get_or c.args.starts.now k []) j
 

@@ -9,6 +9,6 @@ returns g c =
     let l : length c.bytes.result ≡ 16 = search rules in
     record {
       value = c.close.ensures
-          ∙ simp (c.feed-5.ensures, c.feed-4.ensures, c.feed-3.ensures, c.feed-2.ensures, c.feed.ensures, c.bytes.ensures, c.to-be-bytes.ensures, c.start-h.ensures, m.joined, m.whole);
+          ∙ simp (c.feed-5.ensures, c.feed-4.ensures, c.feed-3.ensures, c.feed-2.ensures, c.feed.ensures, c.bytes.ensures, c.to_be_bytes.ensures, c.start-h.ensures, m.joined, m.whole);
       named = ap length (sym c.bytes.ensures) ∙ l;
     }

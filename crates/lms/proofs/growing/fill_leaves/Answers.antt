@@ -15,14 +15,14 @@ loop-b-preserved g c q h =
     let first = c.keys-first.result in
     let b = c.loop-b.b in
     elim (cases_lt q (8 * b)) [
-      | inl l ↦ c.fill-eight.ensures.old (first + q) (omega arith) ∙ c.loop-b.invariant q l
+      | inl l ↦ c.fill_eight.ensures.old (first + q) (omega arith) ∙ c.loop-b.invariant q l
       | inr l ↦
           let k : ℕ = q - 8 * b in
           let e : first + 8 * b + k ≡ first + q = omega arith in
           let d : 8 * b + k ≡ q = omega arith in
           let small : 8 * b + k < 2 ^ 32 = omega arith in
-          ap (λ n. get_or c.fill-eight.new.nodes n []) (sym e) ∙ c.fill-eight.ensures.new k (omega arith)
-          ∙ ap₂ (leaf_node H a.id.bytes) e (c.public-keys-keys.ensures k (omega arith) ∙ ap P (mod-eq_of_lt small ∙ d))
+          ap (λ n. get_or c.fill_eight.new.nodes n []) (sym e) ∙ c.fill_eight.ensures.new k (omega arith)
+          ∙ ap₂ (leaf_node H a.id.bytes) e (c.public_keys-keys.ensures k (omega arith) ∙ ap P (mod-eq_of_lt small ∙ d))
     ]
 
 pub returns : goal.returns

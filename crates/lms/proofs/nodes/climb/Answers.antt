@@ -18,10 +18,10 @@ loop-k-preserved g c =
       elim c.if-number-eq1.branch [
         | then-number-eq1 w ↦
             w.x-is ∙ climb_odd g.H.Hash.hashed a.id.bytes path a.r a.bottom.now k c.loop-k.invariant.1 w.if-number-eq1.true
-            c.loop-k.invariant.0 (c.row-at-next.ensures.inside o) w.inner-x.ensures
+            c.loop-k.invariant.0 (c.row_at-next.ensures.inside o) w.inner-x.ensures
         | else-number-eq1 w ↦
             w.x-is ∙ climb_even g.H.Hash.hashed a.id.bytes path a.r a.bottom.now k c.loop-k.invariant.1 w.if-number-eq1.false
-            c.loop-k.invariant.0 (c.row-at-next.ensures.inside o) w.inner-x-else-number-eq1.ensures
+            c.loop-k.invariant.0 (c.row_at-next.ensures.inside o) w.inner-x-else-number-eq1.ensures
       ],
       ap (λ n. n / 2) c.loop-k.invariant.1 ∙ halved_more a.r k,
     )

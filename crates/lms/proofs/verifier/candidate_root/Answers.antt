@@ -14,13 +14,13 @@ returns g c =
     let h = levels a.height in
     let w = bits a.width in
     let n : ℕ = 32 * p w in
-    let end : ℕ = 40 + 32 * c.chain-count.result in
-    let e : c.chain-count.result ≡ p w = c.chain-count.ensures.value in
+    let end : ℕ = 40 + 32 * c.chain_count.result in
+    let e : c.chain_count.result ≡ p w = c.chain_count.ensures.value in
     let m : end - 40 ≡ n = omega arith in
     let b : end + 4 ≡ 44 + n = omega arith in
     let l : length s - (end + 4) ≡ 32 * h = omega arith in
-    let C = c.row-at.ensures.inside (omega arith) in
-    let Q : c.digest-of-digest.result ≡ digest H I a.q (part 8 32 s) a.message.now = c.digest-of-digest.ensures.value ∙ ap (λ t. digest H I a.q t a.message.now) C in
+    let C = c.row_at.ensures.inside (omega arith) in
+    let Q : c.digest_of-digest.result ≡ digest H I a.q (part 8 32 s) a.message.now = c.digest_of-digest.ensures.value ∙ ap (λ t. digest H I a.q t a.message.now) C in
     let r : c.keys.result + a.q ≡ 2 ^ h + a.q = ap (λ k. k + a.q) c.keys.ensures in
     let key : c.in-Ok.key ≡ candidate_key H I w a.q (digest H I a.q (part 8 32 s) a.message.now) (λ i. row_at i (part 40 n s)) =
     c.in-Ok.ensures.1 ∙ (λ j. candidate_key H I w a.q (Q j) (λ i. row_at i (part 40 (m j) s))) in

@@ -11,7 +11,7 @@ returns g c =
     record {
       value = e;
       sound = λ r.
-          accepted_from g.H.Hash.hashed g.H.Hash.ots g.H.Hash.tree a.root.now a.message.now a.sig.now (λ i. (c.type-inv.root i).fits) (λ i. (c.type-inv.sig i).fits)
+          accepted_from g.H.Hash.hashed g.H.Hash.ots g.H.Hash.tree a.root.now a.message.now a.sig.now (λ i. (c.type_inv.root i).fits) (λ i. (c.type_inv.sig i).fits)
           (sym e ∙ r);
       complete = λ r.
           e ∙ accepted_yes g.H.Hash.hashed g.H.Hash.ots g.H.Hash.tree m.ots_low m.tree_low a.root.now a.message.now a.sig.now r;

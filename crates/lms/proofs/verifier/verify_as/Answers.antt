@@ -1,5 +1,5 @@
 use Rattle.std.proofs.Common.{◌≡◌, ℕ, ◌+◌, ◌*◌, ◌^◌, ◌<◌, ◌&&◌, eqb, List, Decides, sym, ap, ◌∙◌, subst, subst₂, arith}
-use Rattle.std.proofs.lemmas.Slice.Eq.{slice_eq-Decides}
+use Rattle.std.proofs.lemmas.Slice.Eq.{bytes_eq-Decides}
 use Rattle.rows.specs.Bytes.{str_tou32, part, row_at}
 use Rattle.sizes.specs.Sizes.{levels, bits}
 use Rattle.lmots.specs.LmOts.{p}
@@ -18,18 +18,18 @@ returns-then-sig-end g c =
     let a = c.args in
     wrong_length g.H.Hash.hashed a.root.now a.message.now a.sig.now (levels a.height) (bits a.width) (λ e. c.if-sig-end.true (omega arith))
 
-pub returns-then-not-codes-agree : goal.returns-then-not-codes-agree
-returns-then-not-codes-agree g c =
+pub returns-then-not-codes_agree : goal.returns-then-not-codes_agree
+returns-then-not-codes_agree g c =
     let a = c.args in
     wrong_codes g.H.Hash.hashed a.root.now a.message.now a.sig.now (levels a.height) (bits a.width) (omega arith)
-    (sym (codes a.root.now a.sig.now (bits a.width) c.chain-count.result c.chain-count.ensures.value) ∙ sym c.codes-agree.ensures ∙ c.if-not-codes-agree.true)
+    (sym (codes a.root.now a.sig.now (bits a.width) c.chain_count.result c.chain_count.ensures.value) ∙ sym c.codes_agree.ensures ∙ c.if-not-codes_agree.true)
 
-pub returns-in-default : goal.returns-in-default
-returns-in-default g c =
+pub returns-in_default : goal.returns-in_default
+returns-in_default g c =
     let a = c.args in
     wrong_number g.H.Hash.hashed a.root.now a.message.now a.sig.now (levels a.height) (bits a.width) (omega arith)
-    (sym (codes a.root.now a.sig.now (bits a.width) c.chain-count.result c.chain-count.ensures.value) ∙ sym c.codes-agree.ensures ∙ c.if-not-codes-agree.false)
-    c.in-default.ensures
+    (sym (codes a.root.now a.sig.now (bits a.width) c.chain_count.result c.chain_count.ensures.value) ∙ sym c.codes_agree.ensures ∙ c.if-not-codes_agree.false)
+    c.in_default.ensures
 
 pub returns : goal.returns
 returns g c =
@@ -39,12 +39,12 @@ returns g c =
     let w = bits a.width in
     let q = c.in-Some.ensures in
     last_test g.H.Hash.hashed a.root.now a.message.now s h w (omega arith)
-    (sym (codes a.root.now s w c.chain-count.result c.chain-count.ensures.value) ∙ sym c.codes-agree.ensures ∙ c.if-not-codes-agree.false)
+    (sym (codes a.root.now s w c.chain_count.result c.chain_count.ensures.value) ∙ sym c.codes_agree.ensures ∙ c.if-not-codes_agree.false)
     (subst (λ n. n < 2 ^ h) q.0 q.1)
     c.eq.result
     (subst₂ (λ x y. Decides c.eq.result (x ≡ y))
-    (c.row-at.ensures.inside (omega arith))
-    (c.candidate-root.ensures
-    ∙ (λ j. candidate_root g.H.Hash.hashed (c.identifier-of.ensures j) h w (q.0 j) (part 8 32 s) a.message.now
+    (c.row_at.ensures.inside (omega arith))
+    (c.candidate_root.ensures
+    ∙ (λ j. candidate_root g.H.Hash.hashed (c.identifier_of.ensures j) h w (q.0 j) (part 8 32 s) a.message.now
     (λ i. row_at i (part 40 (32 * p w) s)) (λ k. row_at k (part (44 + 32 * p w) (32 * h) s))))
-    (slice_eq-Decides c.row-at.result c.candidate-root.result c.eq.result c.eq.ensures))
+    (subst (λ r. Decides r (c.row_at.result ≡ c.candidate_root.result)) (sym c.eq.ensures) (bytes_eq-Decides c.row_at.result c.candidate_root.result)))

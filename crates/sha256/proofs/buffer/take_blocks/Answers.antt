@@ -13,7 +13,7 @@ loop-block-preserved c =
 
 pub returns : goal.returns
 returns c =
-    let short : length c.loop-block.rest.now < 64 = omega (arith, c.in-default.ensures.cases) in
+    let short : length c.loop-block.rest.now < 64 = omega (arith, c.in_default.ensures.cases) in
     record {
       chain = sym (chained_short 64 compressed c.loop-block.rest.now c.loop-block.words [] (omega arith)) ∙ c.loop-block.invariant.0;
       short = omega arith;

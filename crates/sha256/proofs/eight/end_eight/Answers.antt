@@ -12,7 +12,7 @@ pub loop-i-preserved : goal.loop-i-preserved
 loop-i-preserved c = (
   search rules,
   below_set (λ k v. v ≡ bytes_of (lane k c.rows-rows.result))
-      c.loop-i.digests c.loop-i.i c.digest-of-lane.result (omega arith) c.loop-i.invariant.1 c.digest-of-lane.ensures,
+      c.loop-i.digests c.loop-i.i c.digest_of_lane.result (omega arith) c.loop-i.invariant.1 c.digest_of_lane.ensures,
 )
 
 pub returns : goal.returns
@@ -20,7 +20,7 @@ returns c i h = (
   c.loop-i.invariant.1 i (omega arith)
       ∙ ap bytes_of
       (ap (lane i) c.rows-rows.ensures
-      ∙ c.compress-eight.ensures i h
+      ∙ c.compress_eight.ensures i h
       ∙ ap (λ u. compressed u (get_or c.fill.result i [])) (c.spread-hash.ensures i h)
       ∙ ap (compressed c.args.words.now) (c.fill.ensures i h).0),
   (c.fill.ensures i h).1,

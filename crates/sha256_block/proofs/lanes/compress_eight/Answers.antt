@@ -16,11 +16,11 @@ loop-t-preserved c =
     let long : t + 16 < length w = omega arith in (
       search rules,
       (λ i h.
-          ap (take _) (lane_set i w (t + 16) c.next-word.result)
-          ∙ widen (lane i w) (get_or c.args.blocks.now i []) t (get_or c.next-word.result i 0) (omega (arith, length_lane i w)) (c.loop-t.invariant.1 i h) (c.next-word.ensures i h)),
+          ap (take _) (lane_set i w (t + 16) c.next_word.result)
+          ∙ widen (lane i w) (get_or c.args.blocks.now i []) t (get_or c.next_word.result i 0) (omega (arith, length_lane i w)) (c.loop-t.invariant.1 i h) (c.next_word.ensures i h)),
       λ i h.
           turns_early (lane i w) (get_or c.args.blocks.now i []) (vars (lane i c.args.hash.now)) (vars (lane i c.loop-t.variables)) _ t (omega arith) (c.loop-t.invariant.1 i h) (c.loop-t.invariant.2 i h)
-          (c.round-variables.ensures i h ∙ ap (λ k. turn k (get_or (get_or w t []) i 0) (vars (lane i c.loop-t.variables))) c.round-constant.ensures ∙ ap (λ x. turn (get_or constants t 0) x (vars (lane i c.loop-t.variables))) (sym (get_or_lane i w t (omega arith)))),
+          (c.round-variables.ensures i h ∙ ap (λ k. turn k (get_or (get_or w t []) i 0) (vars (lane i c.loop-t.variables))) c.round_constant.ensures ∙ ap (λ x. turn (get_or constants t 0) x (vars (lane i c.loop-t.variables))) (sym (get_or_lane i w t (omega arith)))),
     )
 
 pub loop-t-2-init : goal.loop-t-2-init
@@ -37,7 +37,7 @@ loop-t-2-preserved c i h =
     let whole : lane i c.loop-t.words ≡ schedule 48 (get_or c.args.blocks.now i []) =
     sym (take_all 64 (lane i w) (omega (arith, length_lane i w))) ∙ rw e at (c.loop-t.invariant.1 i h) in
     turns_late (lane i w) b (vars (lane i c.args.hash.now)) (vars (lane i c.loop-t-2.variables)) _ t whole (c.loop-t-2.invariant i h)
-    (c.round-variables-in-loop-t-2.ensures i h ∙ ap (λ k. turn k (get_or (get_or w t []) i 0) (vars (lane i c.loop-t-2.variables))) c.round-constant-in-loop-t-2.ensures ∙ ap (λ x. turn (get_or constants t 0) x (vars (lane i c.loop-t-2.variables))) (sym (get_or_lane i w t (omega arith))))
+    (c.round-variables-in-loop-t-2.ensures i h ∙ ap (λ k. turn k (get_or (get_or w t []) i 0) (vars (lane i c.loop-t-2.variables))) c.round_constant-in-loop-t-2.ensures ∙ ap (λ x. turn (get_or constants t 0) x (vars (lane i c.loop-t-2.variables))) (sym (get_or_lane i w t (omega arith))))
 
 pub returns : goal.returns
 unfolding compressed

@@ -18,8 +18,8 @@ returns c i h =
       c.add-2.ensures i h,
       c.choose.ensures i h,
       c.add.ensures i h,
-      c.big-sigma1.ensures i h,
-      c.big-sigma0.ensures i h,
+      c.big_sigma1.ensures i h,
+      c.big_sigma0.ensures i h,
       c.majority.ensures i h,
     )
     (ap (turn c.args.constant (get_or c.args.word i 0)) (sym (vars_lane i vs l)))

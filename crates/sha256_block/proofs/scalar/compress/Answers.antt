@@ -13,8 +13,8 @@ loop-t-preserved c =
     let w = c.loop-t.words in
     let t = c.loop-t.t in (
       search rules,
-      widen w b t c.next-word.result (omega arith) c.loop-t.invariant.1 c.next-word.ensures,
-      turns_early w b (vars c.args.hash.now) (vars c.loop-t.variables) _ t (omega arith) c.loop-t.invariant.1 c.loop-t.invariant.2 (c.round-variables.ensures ∙ ap (λ k. turn k (get_or w t 0) (vars c.loop-t.variables)) c.round-constant.ensures),
+      widen w b t c.next_word.result (omega arith) c.loop-t.invariant.1 c.next_word.ensures,
+      turns_early w b (vars c.args.hash.now) (vars c.loop-t.variables) _ t (omega arith) c.loop-t.invariant.1 c.loop-t.invariant.2 (c.round-variables.ensures ∙ ap (λ k. turn k (get_or w t 0) (vars c.loop-t.variables)) c.round_constant.ensures),
     )
 
 pub loop-t-2-init : goal.loop-t-2-init
@@ -29,7 +29,7 @@ loop-t-2-preserved c =
     let t = c.loop-t-2.t in
     let e : c.loop-t.t ≡ 48 = omega arith in
     let whole : c.loop-t.words ≡ schedule 48 c.args.block.now = sym (take_all 64 w (omega arith)) ∙ rw e at c.loop-t.invariant.1 in
-    turns_late w b (vars c.args.hash.now) (vars c.loop-t-2.variables) _ t whole c.loop-t-2.invariant (c.round-variables-in-loop-t-2.ensures ∙ ap (λ k. turn k (get_or w t 0) (vars c.loop-t-2.variables)) c.round-constant-in-loop-t-2.ensures)
+    turns_late w b (vars c.args.hash.now) (vars c.loop-t-2.variables) _ t whole c.loop-t-2.invariant (c.round-variables-in-loop-t-2.ensures ∙ ap (λ k. turn k (get_or w t 0) (vars c.loop-t-2.variables)) c.round_constant-in-loop-t-2.ensures)
 
 pub returns : goal.returns
 unfolding compressed

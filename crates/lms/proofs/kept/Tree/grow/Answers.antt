@@ -4,17 +4,17 @@ use Rattle.sizes.specs.Sizes.{levels, bits}
 use Rattle.lms.specs.Nodes.{Filled}
 use Rattle.lms.proofs.kept.Tree.grow.Goals as goal
 
-pub invariant-of-result : goal.invariant-of-result
-invariant-of-result g c =
-    let v = c.in-ok-nodes.nodes in
+pub invariant_of-result : goal.invariant_of-result
+invariant_of-result g c =
+    let v = c.in_ok-nodes.nodes in
     let l : length c.fill.new.nodes ≡ v.len = search rules in
     let m : length c.fill.new.nodes ≡ 2 ^ levels c.args.height * 2 = search rules in
-    (ap length (with_items_is v c.fill.new.nodes l) ∙ m, tt)
+    record { room = ap length (with_items_is v c.fill.new.nodes l) ∙ m }
 
 pub returns : goal.returns
 returns g c =
     let a = c.args in
-    let v = c.in-ok-nodes.nodes in
+    let v = c.in_ok-nodes.nodes in
     let l : length c.fill.new.nodes ≡ v.len = search rules in (
       refl,
       refl,

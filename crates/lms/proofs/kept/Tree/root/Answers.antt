@@ -27,10 +27,10 @@ returns g c =
     let l₄ : length c.put-4.new.out ≡ 56 = search rules in
     let value : c.put-4.new.out ≡ root_layout g.H.Hash.ots g.H.Hash.tree h w I (get_or xs 1 []) =
     written_key _ c.put.new.out c.put-2.new.out c.put-3.new.out c.put-4.new.out
-    c.to-be-bytes.result c.to-be-bytes-2.result c.bytes.result c.index.result.now
-    (ap length c.to-be-bytes.ensures) (ap length c.to-be-bytes-2.ensures) lI ln refl l₁ l₂ l₃ l₄
+    c.to_be_bytes.result c.to_be_bytes-2.result c.bytes.result c.index.result.now
+    (ap length c.to_be_bytes.ensures) (ap length c.to_be_bytes-2.ensures) lI ln refl l₁ l₂ l₃ l₄
     c.put.ensures.inside c.put-2.ensures.inside c.put-3.ensures.inside c.put-4.ensures.inside
-    ∙ (λ j. (c.to-be-bytes.ensures ∙ ap u32str c.tree-code.ensures) j ++ (c.to-be-bytes-2.ensures ∙ ap u32str c.ots-code.ensures) j
+    ∙ (λ j. (c.to_be_bytes.ensures ∙ ap u32str c.tree_code.ensures) j ++ (c.to_be_bytes-2.ensures ∙ ap u32str c.ots_code.ensures) j
     ++ c.bytes.ensures j ++ n j) in
     record {
       held = value;

@@ -14,9 +14,9 @@ returns g c =
     let xs = vec_items t.nodes in
     record {
       answer = search rules;
-      held = c.write-siblings.ensures;
+      held = c.write_siblings.ensures;
       grown = λ f.
-          c.write-siblings.ensures
+          c.write_siblings.ensures
           ∙ rows_same h (kept_path xs h q) (path_of g.H.Hash.hashed t.id.bytes t.seed.bytes h (bits t.width) q)
           (λ k l. kept_is_path g.H.Hash.hashed t.id.bytes t.seed.bytes h (bits t.width) xs f q k (omega arith) l);
     }

@@ -9,8 +9,8 @@ pub loop-k-preserved : goal.loop-k-preserved
 loop-k-preserved g c =
     let t = c.args.self.now in
     let f = kept_path (vec_items t.nodes) (levels t.height) c.args.key in
-    below_more (λ k. row_at k c.put-row.new.out ≡ f k) c.loop-k.k (λ k h. c.put-row.ensures.old k (λ e. omega arith) ∙ c.loop-k.invariant k h)
-    (c.put-row.ensures.new (omega arith) ∙ c.sibling-row.ensures)
+    below_more (λ k. row_at k c.put_row.new.out ≡ f k) c.loop-k.k (λ k h. c.put_row.ensures.old k (λ e. omega arith) ∙ c.loop-k.invariant k h)
+    (c.put_row.ensures.new (omega arith) ∙ c.sibling-row.ensures)
 
 pub returns : goal.returns
 returns g c =

@@ -23,36 +23,36 @@ returns g c =
     let q = a.key in
     let h = tall t in
     let w = wide t in
-    let n : ℕ = 32 * c.chain-count.result in
-    let Y = rows (p w) (λ i. X H I t.seed.bytes q i (digit w c.digest-of-digest.result i)) in
+    let n : ℕ = 32 * c.chain_count.result in
+    let Y = rows (p w) (λ i. X H I t.seed.bytes q i (digit w c.digest_of-digest.result i)) in
     let Z = rows h (held_path t q) in
     let C = prefix H I t.seed.bytes q in
     let head = u32str q ++ u32str (ots_code g.H.Hash.ots w) in
-    let o₃ = c.write-head.new.out in
-    let y = c.write-selected.new.out in
+    let o₃ = c.write_head.new.out in
+    let y = c.write_selected.new.out in
     let o₄ = put_mid 40 (40 + n - 40) o₃ y in
     let o₅ = c.put.new.out in
-    let z = c.write-siblings.new.out in
+    let z = c.write_siblings.new.out in
     let o₆ = put_mid (40 + n + 4) (length o₅ - (40 + n + 4)) o₅ z in
-    let d = c.to-be-bytes.result in
-    let ld : length d ≡ 4 = ap length c.to-be-bytes.ensures in
+    let d = c.to_be_bytes.result in
+    let ld : length d ≡ 4 = ap length c.to_be_bytes.ensures in
     let l₃ : length o₃ ≡ length a.out.now = search rules in
     let ly : length y ≡ n = search rules in
     let l₄ : length o₄ ≡ length a.out.now = search rules in
     let l₅ : length o₅ ≡ length a.out.now = search rules in
     let lz : length z ≡ 32 * h = search rules in
     let l₆ : length o₆ ≡ length a.out.now = search rules in
-    let e : 40 + n - 40 ≡ 32 * p w = omega (arith, c.chain-count.ensures.value) in
-    let lp : length (part 40 (40 + n - 40) o₃) ≡ 32 * p w = length_part o₃ 40 (40 + n - 40) (omega (arith, c.chain-count.ensures.value)) ∙ e in
-    let ey : y ≡ Y = (only_ok c.write-selected.result _ _ c.write-selected.ensures (λ e f. f.0 lp)).1 in
-    let Q = c.digest-of-digest.ensures.value ∙ ap (λ x. digest H I q x a.message.now) c.prefix-of-prefix.ensures in
+    let e : 40 + n - 40 ≡ 32 * p w = omega (arith, c.chain_count.ensures.value) in
+    let lp : length (part 40 (40 + n - 40) o₃) ≡ 32 * p w = length_part o₃ 40 (40 + n - 40) (omega (arith, c.chain_count.ensures.value)) ∙ e in
+    let ey : y ≡ Y = (only_ok c.write_selected.result _ _ c.write_selected.ensures (λ e f. f.0 lp)).1 in
+    let Q = c.digest_of-digest.ensures.value ∙ ap (λ x. digest H I q x a.message.now) c.prefix_of-prefix.ensures in
     record {
       held =
-          written_rest n (32 * h) o₃ o₄ o₅ o₆ (head ++ c.prefix-of-prefix.result) y d z (omega arith) c.write-head.ensures
+          written_rest n (32 * h) o₃ o₄ o₅ o₆ (head ++ c.prefix_of-prefix.result) y d z (omega arith) c.write_head.ensures
           (take-put_mid 40 (40 + n - 40) o₃ y (40 + n) (omega arith) (omega arith))
           (put_behind o₄ o₅ d (40 + n) (40 + n + 4) c.put.ensures.inside (omega arith) (omega arith))
           (take-put_mid (40 + n + 4) (length o₅ - (40 + n + 4)) o₅ z (40 + n + 4 + 32 * h) (omega arith) (omega arith))
-          ∙ (λ j. head ++ c.prefix-of-prefix.ensures j ++ (ey ∙ (λ i. rows (p w) (λ k. X H I t.seed.bytes q k (digit w (Q i) k)))) j
-          ++ (c.to-be-bytes.ensures ∙ ap u32str c.tree-code.ensures) j ++ c.write-siblings.ensures j);
-      named = c.digest-of-digest.ensures.named;
+          ∙ (λ j. head ++ c.prefix_of-prefix.ensures j ++ (ey ∙ (λ i. rows (p w) (λ k. X H I t.seed.bytes q k (digit w (Q i) k)))) j
+          ++ (c.to_be_bytes.ensures ∙ ap u32str c.tree_code.ensures) j ++ c.write_siblings.ensures j);
+      named = c.digest_of-digest.ensures.named;
     }

@@ -12,19 +12,15 @@ invariant_of-result c =
     let masks = c.args.masks.now in
     let copied = c.copy_from_slice.ensures.after in
     let fine = c.if-not-rise.ensures.0 refl in
-    let limit : (1 * 2 ^ c.args.trustees) % 2 ^ 16 ≡ 2 ^ c.args.trustees = one_shl c.args.trustees 16 (omega arith) in (
-      and_from _ _ (le-leb 1 c.args.trustees (omega arith)) (le-leb c.args.trustees 8 (omega arith)),
-      (
-        and_from _ _ (le-leb 1 (length masks) (omega arith)) (le-leb (length masks) 70 (omega arith)),
-        (
-          omega (arith, c.keys.ensures),
-          (
-            room masks c.copy_from_slice.new.self _ copied,
-            (within masks c.copy_from_slice.new.self _ copied _ _ limit fine.0, (rising masks c.copy_from_slice.new.self _ copied fine.1, tt)),
-          ),
-        ),
-      ),
-    )
+    let limit : (1 * 2 ^ c.args.trustees) % 2 ^ 16 ≡ 2 ^ c.args.trustees = one_shl c.args.trustees 16 (omega arith) in
+    record {
+      trustees_in = and_from _ _ (le-leb 1 c.args.trustees (omega arith)) (le-leb c.args.trustees 8 (omega arith));
+      groups_in = and_from _ _ (le-leb 1 (length masks) (omega arith)) (le-leb (length masks) 70 (omega arith));
+      keys_for_all = omega (arith, c.keys.ensures);
+      room = room masks c.copy_from_slice.new.self _ copied;
+      within = within masks c.copy_from_slice.new.self _ copied _ _ limit fine.0;
+      rising = rising masks c.copy_from_slice.new.self _ copied fine.1;
+    }
 
 pub returns : goal.returns
 returns c =

@@ -20,10 +20,10 @@ returns c =
       | then-filled-gt55 w ↦
           two_blocks v c.if-filled-gt55.words c.compress-2.new.hash t c.marked-block.result c.put.new.block n lt
           w.if-filled-gt55.true q0 (w.words-is ∙ w.compress.ensures)
-          (rw (w.block-is, c.bit-length.ensures) at c.put.ensures) c.compress-2.ensures
+          (rw (w.block-is, c.bit_length.ensures) at c.put.ensures) c.compress-2.ensures
       | else-filled-gt55 w ↦
           let f = framed t c.marked-block.result c.put.new.block n (n % 64) (omega arith) w.if-filled-gt55.false refl q0
-          (rw (w.block-is, c.bit-length.ensures) at c.put.ensures) in
+          (rw (w.block-is, c.bit_length.ensures) at c.put.ensures) in
           ap bytes_of (rw w.words-is at c.compress-2.ensures ∙ ap (compressed v) (framed_none t c.put.new.block n (n % 64) lt f))
           ∙ sym (one_block v t n lt w.if-filled-gt55.false)
     ]
