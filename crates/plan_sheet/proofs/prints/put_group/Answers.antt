@@ -13,5 +13,5 @@ returns c =
     let t4 = string_bytes c.put-4.new.text in
     made_pushed c.push.result t4 (10 ∷ []) _ _ c.push.ensures.bytes
     (four_pushed _ _ _ _ _ (right 6 g.number) (right 6 g.first) (right 6 ((g.first + g.count) - 1)) (right 6 (length (members g.mask)))
-    c.in-ok-put.ensures c.in-ok-put-2.ensures c.in-ok-put-3.ensures
-    (field_pushed _ t4 _ _ c.size.ensures c.in-ok-put-4.ensures))
+    c.in_ok-put.ensures c.in_ok-put-2.ensures c.in_ok-put-3.ensures
+    (field_pushed _ t4 _ _ c.size.ensures c.in_ok-put-4.ensures))

@@ -12,9 +12,9 @@ returns c =
     let e = c.args.refusal.now in
     let t0 = string_bytes c.new-text.result in
     let row = (right 6 (number_of e) ++ (right 6 (line_of e) ++ (right 6 (field_of e) ++ []))) ++ 10 ∷ [] in
-    c.in-ok-push.ensures.bytes
+    c.in_ok-push.ensures.bytes
     ∙ three_pushed t0 _ _ _ _ _ _
-    (field_pushed t0 _ _ (number_of e) c.number.ensures c.in-ok-put.ensures)
-    (field_pushed _ _ _ (line_of e) c.line.ensures c.in-ok-put-2.ensures)
-    (field_pushed _ _ _ (field_of e) c.field.ensures c.in-ok-put-3.ensures)
+    (field_pushed t0 _ _ (number_of e) c.number.ensures c.in_ok-put.ensures)
+    (field_pushed _ _ _ (line_of e) c.line.ensures c.in_ok-put-2.ensures)
+    (field_pushed _ _ _ (field_of e) c.field.ensures c.in_ok-put-3.ensures)
     ∙ ap (λ t. t ++ row) c.new-text.ensures.bytes

@@ -15,47 +15,47 @@ returns-then-not-formed c =
     let e = fault_form c.args.sheet.now (sym c.if-not-formed.ensures) in
     record { fault = sym e; written = no_plan _ _ e; law = (sound, complete); exactly = no_plan _ _ e }
 
-pub returns-in-err-heading : goal.returns-in-err-heading
-returns-in-err-heading c =
-    let p = err_from_is_err_and c.from-residual.result c.from-residual.ensures.1 in
+pub returns-in_err-heading : goal.returns-in_err-heading
+returns-in_err-heading c =
+    let p = err_from_is_err_and c.from_residual.result c.from_residual.ensures.1 in
     let same = c.new-cursor.ensures.0 in
-    let e = fault_heading c.args.sheet.now (sym c.if-not-formed.ensures) _ (sym (ap (λ x. first (heading_faults x)) same) ∙ c.in-err-heading.ensures.value) in
+    let e = fault_heading c.args.sheet.now (sym c.if-not-formed.ensures) _ (sym (ap (λ x. first (heading_faults x)) same) ∙ c.in_err-heading.ensures.value) in
     record { fault = rw (p.1, p.2) (sym e); written = rw p.1 (no_plan _ _ e); law = (sound, complete); exactly = rw p.1 (no_plan _ _ e) }
 
 pub returns-then-not-fits : goal.returns-then-not-fits
 returns-then-not-fits c =
-    let h = c.in-ok-heading.heading in
-    let head = subst (λ x. Headed x h.trustees (levels h.height) (bits h.width) h.groups) c.new-cursor.ensures.0 c.in-ok-heading.ensures.value in
+    let h = c.in_ok-heading.heading in
+    let head = subst (λ x. Headed x h.trustees (levels h.height) (bits h.width) h.groups) c.new-cursor.ensures.0 c.in_ok-heading.ensures.value in
     let e = wrong_count c.args.sheet.now (sym c.if-not-formed.ensures) _ _ _ _ head c.if-not-fits.ensures in
     record { fault = sym e; written = no_plan _ _ e; law = (sound, complete); exactly = no_plan _ _ e }
 
-pub returns-in-err-masks : goal.returns-in-err-masks
-returns-in-err-masks c =
-    let p = err_from_is_err_and c.from-residual-in-err-masks.result c.from-residual-in-err-masks.ensures.1 in
-    let h = c.in-ok-heading.heading in
+pub returns-in_err-masks : goal.returns-in_err-masks
+returns-in_err-masks c =
+    let p = err_from_is_err_and c.from_residual-in_err-masks.result c.from_residual-in_err-masks.ensures.1 in
+    let h = c.in_ok-heading.heading in
     let same = c.new-cursor.ensures.0 in
-    let head = subst (λ x. Headed x h.trustees (levels h.height) (bits h.width) h.groups) same c.in-ok-heading.ensures.value in
-    let lines = sym (ap (λ x. first (map (line_fault x) (range_with_len 2 h.groups))) (c.heading.ensures.moved.0 ∙ same)) ∙ c.in-err-masks.ensures in
+    let head = subst (λ x. Headed x h.trustees (levels h.height) (bits h.width) h.groups) same c.in_ok-heading.ensures.value in
+    let lines = sym (ap (λ x. first (map (line_fault x) (range_with_len 2 h.groups))) (c.heading.ensures.moved.0 ∙ same)) ∙ c.in_err-masks.ensures in
     let e = lines_fault c.args.sheet.now (sym c.if-not-formed.ensures) _ _ _ _ head c.if-not-fits.ensures _ lines in
     record { fault = rw (p.1, p.2) (sym e); written = rw p.1 (no_plan _ _ e); law = (sound, complete); exactly = rw p.1 (no_plan _ _ e) }
 
 pub unreachable-requires : goal.unreachable-requires
 unreachable-requires c =
-    let h = c.in-ok-heading.heading in
+    let h = c.in_ok-heading.heading in
     let same = c.new-cursor.ensures.0 in
-    let head = subst (λ x. Headed x h.trustees (levels h.height) (bits h.width) h.groups) same c.in-ok-heading.ensures.value in
-    let lined = subst (λ x. Lined x h.trustees h.groups c.in-ok-masks.masks) (c.heading.ensures.moved.0 ∙ same) c.in-ok-masks.ensures in
+    let head = subst (λ x. Headed x h.trustees (levels h.height) (bits h.width) h.groups) same c.in_ok-heading.ensures.value in
+    let lined = subst (λ x. Lined x h.trustees h.groups c.in_ok-masks.masks) (c.heading.ensures.moved.0 ∙ same) c.in_ok-masks.ensures in
     c.in-None.ensures (valid c.args.sheet.now (sym c.if-not-formed.ensures) _ _ _ _ head c.if-not-fits.ensures _ lined)
 
 pub returns : goal.returns
 returns c =
-    let h = c.in-ok-heading.heading in
+    let h = c.in_ok-heading.heading in
     let s = c.args.sheet.now in
     let same = c.new-cursor.ensures.0 in
     let whole = sym c.if-not-formed.ensures in
     let fits = c.if-not-fits.ensures in
-    let head = subst (λ x. Headed x h.trustees (levels h.height) (bits h.width) h.groups) same c.in-ok-heading.ensures.value in
-    let lined = subst (λ x. Lined x h.trustees h.groups c.in-ok-masks.masks) (c.heading.ensures.moved.0 ∙ same) c.in-ok-masks.ensures in
+    let head = subst (λ x. Headed x h.trustees (levels h.height) (bits h.width) h.groups) same c.in_ok-heading.ensures.value in
+    let lined = subst (λ x. Lined x h.trustees h.groups c.in_ok-masks.masks) (c.heading.ensures.moved.0 ∙ same) c.in_ok-masks.ensures in
     let made = c.in-Some.ensures.1 in
     record {
       fault = sym (faultless s whole _ _ _ _ head fits _ lined);

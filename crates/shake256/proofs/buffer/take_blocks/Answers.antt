@@ -11,7 +11,7 @@ loop-block-preserved c =
 
 pub returns : goal.returns
 returns c =
-    let short : length c.loop-block.rest.now < 136 = omega (arith, c.in-default.ensures.cases) in
+    let short : length c.loop-block.rest.now < 136 = omega (arith, c.in_default.ensures.cases) in
     record {
       chain = sym (chained_short 136 absorbed c.loop-block.rest.now c.loop-block.lanes [] (omega arith)) ∙ c.loop-block.invariant;
       short = short;

@@ -6,6 +6,6 @@ use Rattle.shake256.proofs.pairs.end_two.Goals as goal
 pub returns : goal.returns
 unfolding absorbed
 returns c = (
-  c.squeeze-lane.ensures ∙ ap squeezed (c.permute-two.ensures 0 (lit< tt) ∙ ap permuted (c.paired-states.ensures.left ∙ c.add-block.ensures)),
-  c.squeeze-lane-2.ensures ∙ ap squeezed (c.permute-two.ensures 1 (lit< tt) ∙ ap permuted (c.paired-states.ensures.right ∙ c.add-block-2.ensures)),
+  c.squeeze_lane.ensures ∙ ap squeezed (c.permute_two.ensures 0 (lit< tt) ∙ ap permuted (c.paired-states.ensures.left ∙ c.add_block.ensures)),
+  c.squeeze_lane-2.ensures ∙ ap squeezed (c.permute_two.ensures 1 (lit< tt) ∙ ap permuted (c.paired-states.ensures.right ∙ c.add_block-2.ensures)),
 )

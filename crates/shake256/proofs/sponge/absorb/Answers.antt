@@ -5,4 +5,4 @@ use Rattle.shake256.proofs.sponge.absorb.Goals as goal
 
 pub returns : goal.returns
 unfolding absorbed
-returns c = c.permute.ensures ∙ ap permuted c.add-block.ensures
+returns c = c.permute.ensures ∙ ap permuted c.add_block.ensures

@@ -25,16 +25,16 @@ returns-then-not-distinct g c =
     alike (view c.args.plan.now) (map f c.args.sources.now) c.args.key c.args.length
     (eq-eqb _ _ (omega (arith, length_mapped f c.args.sources.now, c.trustees.ensures))) (sym c.if-not-distinct.ensures)
 
-pub returns-in-default : goal.returns-in-default
-returns-in-default g c =
+pub returns-in_default : goal.returns-in_default
+returns-in_default g c =
     let f = g.P.Pads.source in
     let p = view c.args.plan.now in
     let sources = map f c.args.sources.now in
     past_two p sources c.args.key c.args.length (eq-eqb _ _ (omega (arith, length_mapped f c.args.sources.now, c.trustees.ensures))) (sym c.if-not-distinct.ensures)
-    ∙ ap (of_owner p sources c.args.key (part_long p c.args.length)) (none_owns p sources c.args.key c.args.length c.in-default.ensures.value)
+    ∙ ap (of_owner p sources c.args.key (part_long p c.args.length)) (none_owns p sources c.args.key c.args.length c.in_default.ensures.value)
 
-pub returns-then-length-part-rows : goal.returns-then-length-part-rows
-returns-then-length-part-rows g c =
+pub returns-then-length-part_rows : goal.returns-then-length-part_rows
+returns-then-length-part_rows g c =
     let f = g.P.Pads.source in
     let plan = c.args.plan.now in
     let p = view plan in
@@ -49,10 +49,10 @@ returns-then-length-part-rows g c =
     ∙ ap (λ w. part_rows (levels plan.height) (bits w) (length (members group.mask))) c.width.ensures
     ∙ ap (λ (x : Group). part_rows (levels plan.height) (bits plan.width) (length (members x.mask))) found.2 in
     let first = past_two p sources key n (eq-eqb _ _ (omega (arith, length_mapped f c.args.sources.now, c.trustees.ensures))) (sym c.if-not-distinct.ensures) ∙ ap (of_owner p sources key (part_long p n)) found.1 in
-    first ∙ other_length p sources key n o (ne_eqb _ _ (λ e. c.if-length-part-rows.true (omega (arith, e, rows))))
+    first ∙ other_length p sources key n o (ne_eqb _ _ (λ e. c.if-length-part_rows.true (omega (arith, e, rows))))
 
-pub returns-then-not-all-hold : goal.returns-then-not-all-hold
-returns-then-not-all-hold g c =
+pub returns-then-not-all_hold : goal.returns-then-not-all_hold
+returns-then-not-all_hold g c =
     let f = g.P.Pads.source in
     let plan = c.args.plan.now in
     let p = view plan in
@@ -67,7 +67,7 @@ returns-then-not-all-hold g c =
     ∙ ap (λ w. part_rows (levels plan.height) (bits w) (length (members group.mask))) c.width.ensures
     ∙ ap (λ (x : Group). part_rows (levels plan.height) (bits plan.width) (length (members x.mask))) found.2 in
     let first = past_two p sources key n (eq-eqb _ _ (omega (arith, length_mapped f c.args.sources.now, c.trustees.ensures))) (sym c.if-not-distinct.ensures) ∙ ap (of_owner p sources key (part_long p n)) found.1 in
-    let none : all_hold sources (members_of p o) key ≡ false = ap (λ (x : Group). all_hold sources (members x.mask) key) (sym found.2) ∙ sym c.if-not-all-hold.ensures in
+    let none : all_hold sources (members_of p o) key ≡ false = ap (λ (x : Group). all_hold sources (members x.mask) key) (sym found.2) ∙ sym c.if-not-all_hold.ensures in
     first ∙ past_length p sources key n o (eq-eqb _ _ (omega (arith, rows))) ∙ cond-false (all_hold sources (members_of p o) key) None (Some NotHeld) none
 
 pub returns : goal.returns
@@ -86,7 +86,7 @@ returns g c =
     ∙ ap (λ w. part_rows (levels plan.height) (bits w) (length (members group.mask))) c.width.ensures
     ∙ ap (λ (x : Group). part_rows (levels plan.height) (bits plan.width) (length (members x.mask))) found.2 in
     let first = past_two p sources key n (eq-eqb _ _ (omega (arith, length_mapped f c.args.sources.now, c.trustees.ensures))) (sym c.if-not-distinct.ensures) ∙ ap (of_owner p sources key (part_long p n)) found.1 in
-    let all : all_hold sources (members_of p o) key ≡ true = ap (λ (x : Group). all_hold sources (members x.mask) key) (sym found.2) ∙ sym c.if-not-all-hold.ensures in (
+    let all : all_hold sources (members_of p o) key ≡ true = ap (λ (x : Group). all_hold sources (members x.mask) key) (sym found.2) ∙ sym c.if-not-all_hold.ensures in (
       first ∙ past_length p sources key n o (eq-eqb _ _ (omega (arith, rows))) ∙ cond-true (all_hold sources (members_of p o) key) None (Some NotHeld) all,
       sym c.in-Some.ensures.value,
     )

@@ -17,7 +17,7 @@ loop-i-preserved g c = λ m room.
     let label = label_at part.members (levels part.height) (bits part.width) part.key m in
     let found = c.in-Some.ensures in
     let same : length c.loop-i.out ≡ length c.args.out.now = c.loop-i.auto.out in
-    c.add-pads-of.ensures m (omega (arith, same))
+    c.add_pads_of.ensures m (omega (arith, same))
     ∙ ap₂ xored (c.loop-i.invariant m room) (ap (λ t. (source_of sources t).pad label) found.1)
     ∙ sym (padded_more sources ts n label (row_at m c.args.out.now) found.0)
 

@@ -15,13 +15,13 @@ loop-b-preserved g c =
     let same : length out ≡ length c.args.out.now = c.loop-b.auto.out in (
       (λ m l room.
           ⊎_elim
-          (λ (low : m < 8 * b). c.add-eight.ensures.old m (inl low) ∙ c.loop-b.invariant.0 m low room)
+          (λ (low : m < 8 * b). c.add_eight.ensures.old m (inl low) ∙ c.loop-b.invariant.0 m low room)
           (λ (high : 8 * b ≤ m).
           let k = m - 8 * b in
           let e : 8 * b + k ≡ m = omega arith in
           let small : k < 8 = omega arith in
-          ap (λ i. row_at i c.add-eight.new.out) (sym e) ∙ c.add-eight.ensures.new k small (omega (arith, same))
+          ap (λ i. row_at i c.add_eight.new.out) (sym e) ∙ c.add_eight.ensures.new k small (omega (arith, same))
           ∙ ap₂ xored (ap (λ i. row_at i out) e ∙ c.loop-b.invariant.1 m high) (c.pads-pads.ensures k small ∙ ap pad (c.labels.ensures k small ∙ ap label e)))
           (cases_lt m (8 * b))),
-      (λ m l. c.add-eight.ensures.old m (inr (omega arith)) ∙ c.loop-b.invariant.1 m (omega arith)),
+      (λ m l. c.add_eight.ensures.old m (inr (omega arith)) ∙ c.loop-b.invariant.1 m (omega arith)),
     )

@@ -5,6 +5,4 @@ use Rattle.splitting.proofs.Listed.{decided}
 use Rattle.splitting.proofs.sources.same_check.Goals as goal
 
 pub returns : goal.returns
-returns g c =
-    decided c.check-pad.result c.«check-pad-2».result c.eq.result (slice_eq-Decides _ _ _ c.eq.ensures)
-    ∙ ap₂ bytes_eq c.check-pad.ensures c.«check-pad-2».ensures
+returns g c = c.eq.ensures ∙ ap₂ bytes_eq c.check_pad.ensures c.check_pad-2.ensures

@@ -15,18 +15,18 @@ use Rattle.splitting.proofs.Checked.{one_owns}
 use Rattle.splitting.proofs.Undone.{all_passed, refused, accepted, splitting}
 use Rattle.splitting.proofs.splits.split.Goals as goal
 
-pub returns-in-err-group : goal.returns-in-err-group
-returns-in-err-group g c =
-    let q = err_from_is_err_and c.from-residual.result c.from-residual.ensures.1 in
-    let e = refused (view c.args.plan.now) (map g.P.Pads.source c.args.sources.now) c.args.key c.args.rows.now _ c.in-err-group.ensures in
+pub returns-in_err-group : goal.returns-in_err-group
+returns-in_err-group g c =
+    let q = err_from_is_err_and c.from_residual.result c.from_residual.ensures.1 in
+    let e = refused (view c.args.plan.now) (map g.P.Pads.source c.args.sources.now) c.args.key c.args.rows.now _ c.in_err-group.ensures in
     record { answer = rw (q.1, q.2) (e, refl); laws = splitting }
 
-pub add-all-requires : goal.add-all-requires
-add-all-requires g c =
+pub add_all-requires : goal.add_all-requires
+add_all-requires g c =
     let plan = c.args.plan.now in
     let p = view plan in
-    let mask = c.in-ok-group.group.mask in
-    let all = all_passed p (map g.P.Pads.source c.args.sources.now) c.args.key (length c.args.rows.now) c.in-ok-group.ensures.0 in
+    let mask = c.in_ok-group.group.mask in
+    let all = all_passed p (map g.P.Pads.source c.args.sources.now) c.args.key (length c.args.rows.now) c.in_ok-group.ensures.0 in
     record {
       few = omega (arith, c.size.ensures, members_few mask);
       room = omega (arith, all.long, members_few (get_or p.masks all.g 0), components_few plan.width, levels_few plan.height);
@@ -39,22 +39,22 @@ returns g c =
     let sources = map g.P.Pads.source c.args.sources.now in
     let key = c.args.key in
     let sheet = c.args.rows.now in
-    let group = c.in-ok-group.group in
-    let none = c.in-ok-group.ensures.0 in
-    let found = one_owns p sources key (length sheet) group (sym c.in-ok-group.ensures.1) in
+    let group = c.in_ok-group.group in
+    let none = c.in_ok-group.ensures.0 in
+    let found = one_owns p sources key (length sheet) group (sym c.in_ok-group.ensures.1) in
     let o = found.0 in
     let all = all_passed p sources key (length sheet) none in
     let taken : (a b : ℕ) → Some a ≡ Some b → a ≡ b = λ a b h. cc in
     let long : length sheet ≡ 32 * rows_of_group p o = all.long ∙ ap (λ x. 32 * rows_of_group p x) (taken all.g o (sym all.owns ∙ found.1)) in
-    let out = c.add-all.new.out in
+    let out = c.add_all.new.out in
     let row : ℕ → List ℕ = λ n. padded sources (members_of p o) (label_at (length (members_of p o)) p.height p.width key n) (row_at n sheet) in
     let same : (n : ℕ) → n < rows_of_group p o → row_at n out ≡ row n =
-    λ n l. c.add-all.ensures n (omega (arith, long))
+    λ n l. c.add_all.ensures n (omega (arith, long))
     ∙ ap (λ m. padded sources (members group.mask) (label_at m (levels c.height.result) (bits c.width.result) key n) (row_at n sheet)) c.size.ensures
     ∙ ap (λ h. padded sources (members group.mask) (label_at (length (members group.mask)) (levels h) (bits c.width.result) key n) (row_at n sheet)) c.height.ensures
     ∙ ap (λ w. padded sources (members group.mask) (label_at (length (members group.mask)) (levels plan.height) (bits w) key n) (row_at n sheet)) c.width.ensures
     ∙ ap (λ (x : Group). padded sources (members x.mask) (label_at (length (members x.mask)) (levels plan.height) (bits plan.width) key n) (row_at n sheet)) found.2 in
     record {
-      answer = accepted p sources key o sheet none found.1 ∙ ap (λ x. Ok x) (sym (rows_whole out (rows_of_group p o) row (c.add-all.auto.out ∙ long) same));
+      answer = accepted p sources key o sheet none found.1 ∙ ap (λ x. Ok x) (sym (rows_whole out (rows_of_group p o) row (c.add_all.auto.out ∙ long) same));
       laws = splitting;
     }

@@ -3,12 +3,12 @@ use Rattle.tape.specs.Lines.{lines, FirstUnused}
 use Rattle.tape.proofs.Cutting.{six, after, lines_step, blanks_step, length_after, one_if, rest_of}
 use Rattle.tape.proofs.lines.first_unused.Goals as goal
 
-pub returns-then-is-unused : goal.returns-then-is-unused
-returns-then-is-unused c =
+pub returns-then-is_unused : goal.returns-then-is_unused
+returns-then-is_unused c =
     let xs = c.loop-left.left.now in
     let h : 6 ≤ length xs = search rules in
     let i = c.loop-left.invariant.2.0 in
-    let here = c.loop-left.invariant.2.2 0 (subst (λ ls. FirstUnused ls 0) (sym (lines_step xs h)) (sym c.if-is-unused.ensures)) in
+    let here = c.loop-left.invariant.2.2 0 (subst (λ ls. FirstUnused ls 0) (sym (lines_step xs h)) (sym c.if-is_unused.ensures)) in
     let e : i + 0 ≡ i = omega arith in
     (omega (arith, c.loop-left.invariant.0), (i, c.loop-left.invariant.2.1, subst (FirstUnused (lines c.args.bytes.now)) e here))
 
@@ -18,7 +18,7 @@ loop-left-preserved c =
     let bytes = c.args.bytes.now in
     let h : 6 ≤ length xs = search rules in
     let i = c.loop-left.invariant.2.0 in
-    let no_line = sym c.if-is-unused.ensures in (
+    let no_line = sym c.if-is_unused.ensures in (
       omega (arith, c.loop-left.invariant.0, length_after xs h),
       omega (arith, c.loop-left.invariant.1, blanks_step xs h, one_if no_line),
       (

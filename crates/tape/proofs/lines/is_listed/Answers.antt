@@ -3,17 +3,17 @@ use Rattle.tape.specs.Lines.{lines, lists, is_key}
 use Rattle.tape.proofs.Cutting.{after, lists_step, rest_of}
 use Rattle.tape.proofs.lines.is_listed.Goals as goal
 
-pub returns-then-lists-key : goal.returns-then-lists-key
-returns-then-lists-key c =
+pub returns-then-lists_key : goal.returns-then-lists_key
+returns-then-lists_key c =
     let xs = c.loop-left.left.now in
     let h : 6 ≤ length xs = search rules in
-    sym (c.loop-left.invariant ∙ lists_step xs h c.args.key ∙ ap (λ b. b || lists (lines (after xs)) c.args.key) (sym c.if-lists-key.ensures))
+    sym (c.loop-left.invariant ∙ lists_step xs h c.args.key ∙ ap (λ b. b || lists (lines (after xs)) c.args.key) (sym c.if-lists_key.ensures))
 
 pub loop-left-preserved : goal.loop-left-preserved
 loop-left-preserved c =
     let xs = c.loop-left.left.now in
     let h : 6 ≤ length xs = search rules in
-    c.loop-left.invariant ∙ lists_step xs h c.args.key ∙ ap (λ b. b || lists (lines (after xs)) c.args.key) (sym c.if-lists-key.ensures)
+    c.loop-left.invariant ∙ lists_step xs h c.args.key ∙ ap (λ b. b || lists (lines (after xs)) c.args.key) (sym c.if-lists_key.ensures)
 
 pub returns : goal.returns
 returns c =

@@ -2,17 +2,17 @@ use Rattle.std.proofs.Common.{◌≡◌, ◌<◌, ◌≤◌, cond, length, sym, 
 use Rattle.tape.proofs.Cutting.{blanks_step, length_after, one_if, rest_of}
 use Rattle.tape.proofs.lines.unused_lines.Goals as goal
 
-pub loop-left-preserved-then-is-unused : goal.loop-left-preserved-then-is-unused
-loop-left-preserved-then-is-unused c =
+pub loop-left-preserved-then-is_unused : goal.loop-left-preserved-then-is_unused
+loop-left-preserved-then-is_unused c =
     let xs = c.loop-left.left.now in
     let h : 6 ≤ length xs = search rules in
-    (omega (arith, blanks_step xs h, one_if c.if-is-unused.ensures), omega (arith, length_after xs h))
+    (omega (arith, blanks_step xs h, one_if c.if-is_unused.ensures), omega (arith, length_after xs h))
 
 pub loop-left-preserved : goal.loop-left-preserved
 loop-left-preserved c =
     let xs = c.loop-left.left.now in
     let h : 6 ≤ length xs = search rules in
-    (omega (arith, blanks_step xs h, one_if c.if-is-unused.ensures), omega (arith, length_after xs h))
+    (omega (arith, blanks_step xs h, one_if c.if-is_unused.ensures), omega (arith, length_after xs h))
 
 pub returns : goal.returns
 returns c =

@@ -11,14 +11,14 @@ returns g c =
     let i = c.args.self.now.next % 16 in
     let key = c.args.key in
     let index = c.args.index in
-    let row = c.in-ok-row.row in
+    let row = c.in_ok-row.row in
     let x : Entry = record { key = key; index = index; row = row } in
     let h = g.H.Helper.held c.args.self.now.below in
     let h' = g.H.Helper.held c.read.new.self in
     let full : length es ≡ 16 = search rules in
     let inside : i < length es = omega (arith, mod-lt c.args.self.now.next {m = 16} (omega arith)) in
     let none : lookup es key index ≡ None = search rules in
-    let given : row ≡ h.row key index = row_read h key index row (search rules) c.in-ok-row.ensures.answer in
+    let given : row ≡ h.row key index = row_read h key index row (search rules) c.in_ok-row.ensures.answer in
     record {
       answer = search rules;
       numbers = c.read.ensures.numbers;

@@ -5,8 +5,8 @@ use Rattle.helper.specs.Tables.{whole, part_reading, number_in, laid_out}
 use Rattle.helper.proofs.Cutting.{place_small, as_many, as_whole}
 use Rattle.helper.proofs.table.Table.part.Goals as goal
 
-pub overflow-mul-place : goal.overflow-mul-place
-overflow-mul-place c =
+pub overflow_mul-place : goal.overflow_mul-place
+overflow_mul-place c =
     let s = c.in-Some.section in
     let rows : s.rows < 65536 = search rules in
     let start : s.start < 4294967296 = search rules in

@@ -18,12 +18,12 @@ loop-number-init c = (
   omega arith,
 )
 
-pub overflow-add-start : goal.overflow-add-start
-overflow-add-start c =
+pub overflow_add-start : goal.overflow_add-start
+overflow_add-start c =
     let p = view c.args.plan.now in
     let n = c.loop-number.number in
     let found = group_found p n c.in-Some.group c.in-Some.ensures in
-    let low = more p n c.loop-number.start c.in-Some.group.count c.part-rows-rows.result (ap (λ g. g.count) found.1) c.part-rows-rows.ensures.few c.loop-number.invariant.4 in
+    let low = more p n c.loop-number.start c.in-Some.group.count c.part_rows-rows.result (ap (λ g. g.count) found.1) c.part_rows-rows.ensures.few c.loop-number.invariant.4 in
     let top : first_key p (n + 1) ≤ 1024 = top_first p (plan_ranges c.args.plan.now) n found.0 (keys_most c.args.plan.now.height) in
     omega (arith, low, top)
 
@@ -33,16 +33,16 @@ loop-number-preserved c =
     let n = c.loop-number.number in
     let found = group_found p n c.in-Some.group c.in-Some.ensures in
     let g = c.in-Some.group in
-    let rows = group_rows c.args.plan.now n g c.height.result c.width.result c.part-rows-rows.result c.height.ensures c.width.ensures found.1 c.part-rows-rows.ensures.value in
+    let rows = group_rows c.args.plan.now n g c.height.result c.width.result c.part_rows-rows.result c.height.ensures c.width.ensures found.1 c.part_rows-rows.ensures.value in
     let few = and_parts (leb 1 c.args.plan.now.groups) (leb c.args.plan.now.groups 70) c.args.plan.now.groups_in in
     let count : g.count ≡ key_count p n = ap (λ x. x.count) found.1 in
-    let section : Section = record { first = g.first; count = g.count; rows = c.part-rows-rows.result; start = c.loop-number.start } in
+    let section : Section = record { first = g.first; count = g.count; rows = c.part_rows-rows.result; start = c.loop-number.start } in
     let same : section ≡ section_of p n = λ i. record { first = (found.1 i).first; count = (found.1 i).count; rows = rows i; start = c.loop-number.invariant.3 i } in (
       length-set c.loop-number.all n section ∙ c.loop-number.invariant.0,
       front_more p n c.loop-number.all section (omega (arith, c.loop-number.invariant.0, c.args.plan.now.room, view_groups c.args.plan.now, found.0, leb-true _ _ few.1)) same c.loop-number.invariant.1,
       behind_less n c.loop-number.all section c.loop-number.invariant.2,
-      ap (λ x. x + g.count * c.part-rows-rows.result) c.loop-number.invariant.3 ∙ ap (λ x. start_of p n + x * c.part-rows-rows.result) count ∙ ap (λ x. start_of p n + key_count p n * x) rows ∙ sym (start_next p n),
-      more p n c.loop-number.start g.count c.part-rows-rows.result count c.part-rows-rows.ensures.few c.loop-number.invariant.4,
+      ap (λ x. x + g.count * c.part_rows-rows.result) c.loop-number.invariant.3 ∙ ap (λ x. start_of p n + x * c.part_rows-rows.result) count ∙ ap (λ x. start_of p n + key_count p n * x) rows ∙ sym (start_next p n),
+      more p n c.loop-number.start g.count c.part_rows-rows.result count c.part_rows-rows.ensures.few c.loop-number.invariant.4,
     )
 
 pub returns : goal.returns

@@ -5,8 +5,8 @@ use Rattle.pads.specs.Books.{rows_of_key, row_of, book_holds, book_pad}
 use Rattle.pads.proofs.Places.{place_fits, row_below, place_small, index_inside, held_row}
 use Rattle.pads.proofs.book.BookPads.pad.Goals as goal
 
-pub overflow-mul-rows-of-key-2 : goal.overflow-mul-rows-of-key-2
-overflow-mul-rows-of-key-2 c =
+pub overflow_mul-rows_of_key-2 : goal.overflow_mul-rows_of_key-2
+overflow_mul-rows_of_key-2 c =
     let book = c.args.self.now in
     let h = levels book.height in
     let w = bits book.width in
@@ -33,6 +33,6 @@ returns c =
     let inside = index_inside book.first label.key (2 ^ h) (length bytes) each held in
     let value : c.rows_of_key.result ≡ each = c.rows_of_key.ensures.value in
     let fits = subst (λ e. 32 * (e * index + row) + 32 ≤ length bytes) (sym value) (place_fits (length bytes) each index row inside below) in
-    c.row-at.ensures.inside fits
+    c.row_at.ensures.inside fits
     ∙ ap (λ e. part (32 * (e * index + row)) 32 bytes) value
     ∙ held_row h w book.first bytes label row held c.in-Some.ensures

@@ -8,24 +8,24 @@ use Rattle.plan_sheet.proofs.cursor.Cursor.group.Goals as goal
 pub loop-self-init : goal.loop-self-init
 loop-self-init c = (refl, refl, going_start _ _ _ _ _ _ _ c.requires.place.1.1 c.new-tally.ensures.0 c.new-tally.ensures.1 c.new-tally.ensures.2)
 
-pub returns-in-err-trustee : goal.returns-in-err-trustee
-returns-in-err-trustee c =
-    let p = err_from_is_err_and c.from-residual.result c.from-residual.ensures.1 in
-    let w = c.in-err-trustee.ensures in
+pub returns-in_err-trustee : goal.returns-in_err-trustee
+returns-in_err-trustee c =
+    let p = err_from_is_err_and c.from_residual.result c.from_residual.ensures.1 in
+    let w = c.in_err-trustee.ensures in
     let s = c.args.self.now.sheet.now in
     let l = c.args.self.now.line in
     let f = c.loop-self.self.field in
     let i0 = c.loop-self.invariant.0 in
     let i1 = c.loop-self.invariant.1 in
     let n = c.requires.trustees.1 in
-    let b : entry_fault s l f ≡ Some c.in-err-trustee.field-0.0 = cc in
+    let b : entry_fault s l f ≡ Some c.in_err-trustee.field-0.0 = cc in
     let le : f ≤ 8 = omega arith in
-    let e = going_stop s l c.args.trustees f c.loop-self.tally.floor c.loop-self.tally.mask c.loop-self.tally.fine c.loop-self.invariant.2 le c.in-err-trustee.field-0.0 b in
+    let e = going_stop s l c.args.trustees f c.loop-self.tally.floor c.loop-self.tally.mask c.loop-self.tally.fine c.loop-self.invariant.2 le c.in_err-trustee.field-0.0 b in
     record { value = rw (p.1, p.2) e; moved = (c.next.ensures.moved.0 ∙ i0, c.next.ensures.moved.1 ∙ i1) }
 
 pub loop-self-preserved : goal.loop-self-preserved
 loop-self-preserved c =
-    let w = c.in-ok-trustee.ensures in
+    let w = c.in_ok-trustee.ensures in
     let w0 = w.0 in
     let w1 = w.1 in
     let s = c.args.self.now.sheet.now in
@@ -36,18 +36,18 @@ loop-self-preserved c =
     let n = c.requires.trustees.1 in
     let b : entry_fault s l f ≡ None = cc in
     let le : f ≤ 8 = omega arith in
-    let t = unwrap_or c.in-ok-trustee.trustee 0 in
+    let t = unwrap_or c.in_ok-trustee.trustee 0 in
     let te : t ≡ worth (field_at 3 s l f) = cc in
     let g = going_next s l c.args.trustees f c.loop-self.tally.floor c.loop-self.tally.mask c.loop-self.tally.fine c.loop-self.invariant.2 le b t te
     c.with-tally.result.floor c.with-tally.result.mask c.with-tally.result.fine
     c.with-tally.ensures.order c.with-tally.ensures.mask (c.with-tally.ensures.below c.args.trustees c.loop-self.invariant.2.under w.2) in
     (c.next.ensures.moved.0 ∙ i0, c.next.ensures.moved.1 ∙ i1, going_at _ _ _ _ _ _ _ _ (sym c.next.ensures.moved.2) g)
 
-pub returns-in-default : goal.returns-in-default
-returns-in-default c =
+pub returns-in_default : goal.returns-in_default
+returns-in_default c =
     let f : c.loop-self.self.field ≡ 9 = omega (arith, c.loop-self.invariant.2.high, c.loop-self-test.false) in
     let a = going_all c.args.self.now.sheet.now c.args.self.now.line c.args.trustees c.loop-self.tally.floor c.loop-self.tally.mask c.args.above c.loop-self.tally.fine (going_at _ _ _ _ _ _ _ _ f c.loop-self.invariant.2) c.requires.above in
-    record { value = a.1 c.in-default.ensures ∙ ap (λ k. Some (Members k)) (sym c.loop-self.invariant.1); moved = (c.loop-self.invariant.0, c.loop-self.invariant.1) }
+    record { value = a.1 c.in_default.ensures ∙ ap (λ k. Some (Members k)) (sym c.loop-self.invariant.1); moved = (c.loop-self.invariant.0, c.loop-self.invariant.1) }
 
 pub returns : goal.returns
 returns c =

@@ -6,17 +6,17 @@ use Rattle.plan_sheet.proofs.cursor.Field.quantity.Goals as goal
 
 pub returns : goal.returns
 returns g c =
-    let is = c.in-ok-number.ensures in
+    let is = c.in_ok-number.ensures in
     let q = c.in-Some.ensures in
     (quantity_in g.Q.Quantity.allowed _ _ _ _ is q.0, q.1 ∙ sym (worth_is c.args.self.now.bytes.now _ is), ap g.Q.Quantity.allowed q.1 ∙ q.0)
 
-pub returns-in-err-number : goal.returns-in-err-number
+pub returns-in_err-number : goal.returns-in_err-number
 unfolding quantity_fault
-returns-in-err-number g c =
-    let p = err_from_is_err_and c.from-residual.result c.from-residual.ensures.1 in
-    let w = c.in-err-number.ensures in
+returns-in_err-number g c =
+    let p = err_from_is_err_and c.from_residual.result c.from_residual.ensures.1 in
+    let w = c.in_err-number.ensures in
     rw (p.1, p.2) (rw (w.0, w.1))
 
-pub returns-in-default : goal.returns-in-default
-returns-in-default g c =
-    quantity_out g.Q.Quantity.allowed _ _ _ _ c.in-ok-number.ensures c.in-default.ensures ∙ ap (λ e. Some e) (sym c.out-of-range.ensures)
+pub returns-in_default : goal.returns-in_default
+returns-in_default g c =
+    quantity_out g.Q.Quantity.allowed _ _ _ _ c.in_ok-number.ensures c.in_default.ensures ∙ ap (λ e. Some e) (sym c.out_of_range.ensures)

@@ -6,13 +6,13 @@ pub returns : goal.returns
 unfolding entry_faults
 returns c = search rules
 
-pub returns-then-is-blank : goal.returns-then-is-blank
+pub returns-then-is_blank : goal.returns-then-is_blank
 unfolding entry_faults
-returns-then-is-blank c = search rules
+returns-then-is_blank c = search rules
 
-pub returns-in-err-value : goal.returns-in-err-value
+pub returns-in_err-value : goal.returns-in_err-value
 unfolding entry_faults
-returns-in-err-value c = search rules
+returns-in_err-value c = search rules
 
 pub returns-then-value-lt1 : goal.returns-then-value-lt1
 unfolding entry_faults

@@ -3,11 +3,14 @@ use Rattle.std.proofs.lemmas.Nat.{one_shl}
 use Rattle.plan_sheet.proofs.Groups.{add_bit, add_bit_under, bit_some, order_some}
 use Rattle.plan_sheet.proofs.tally.Tally.with.Goals as goal
 
-pub invariant-of-result-2 : goal.invariant-of-result-2
-invariant-of-result-2 c =
+pub invariant_of-result-2 : goal.invariant_of-result-2
+invariant_of-result-2 c =
     let t = c.in-Some.trustee in
     let e : (1 * 2 ^ (t - 1)) % 2 ^ 8 ≡ 2 ^ (t - 1) = one_shl (t - 1) 8 (search rules) in
-    (search rules, (omega (arith, e, add_bit c.args.self.mask c.args.self.floor t c.args.self.small (omega arith)), tt))
+    record {
+      floor_in = search rules;
+      small = omega (arith, e, add_bit c.args.self.mask c.args.self.floor t c.args.self.small (omega arith));
+    }
 
 pub returns : goal.returns
 returns c =

@@ -16,12 +16,12 @@ returns c i h =
     let t = take f c.args.self.now.buffer in
     let tail = get_or c.args.tails.now i [] in
     let x = take k tail in
-    let room : c.min-count.result < 136 - c.args.self.now.filled % 136 = ltb-true k (136 - f) (sym c.leaves-open.ensures ∙ c.if-not-leaves-open.false) in
+    let room : c.min-count.result < 136 - c.args.self.now.filled % 136 = ltb-true k (136 - f) (sym c.leaves_open.ensures ∙ c.if-not-leaves_open.false) in
     let lt : length (take (c.args.self.now.filled % 136) c.args.self.now.buffer) ≡ c.args.self.now.filled % 136 = length-take-le f c.args.self.now.buffer (search rules) in
-    let lw : length (get_or c.args.tails.now i []) ≡ 64 = (c.end-eight.ensures i h).1 in
+    let lw : length (get_or c.args.tails.now i []) ≡ 64 = (c.end_eight.ensures i h).1 in
     let small : c.min-count.result ≤ 64 = omega (arith, c.min-count.ensures) in
     let lx : length (take c.min-count.result (get_or c.args.tails.now i [])) ≡ c.min-count.result = length-take-le k tail (omega arith) in
-    (c.end-eight.ensures i h).0
+    (c.end_eight.ensures i h).0
     ∙ ap (λ u. squeezed (absorbed v u)) (framed_more t x c.frame-block.result (f + k) f lt (omega arith) (rw sub-zero at c.frame-block.ensures))
     ∙ sym (one_block_more v t x (f + k) (omega arith) (omega arith))
     ∙ ap (λ u. closed (fed (link v t) u)) (rw sub-zero at (front_of tail c.args.len k lw c.min-count.ensures))

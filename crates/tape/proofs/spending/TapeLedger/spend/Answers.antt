@@ -21,8 +21,8 @@ returns c =
     let fits : 6 * i + 6 ≤ length bytes = omega (arith, got.0, at-is) in
     let small : key < 100000 = omega (arith, key_below t.intact h bytes key free, keys_most t.height) in
     let six : (at + 6) - at ≡ 6 = omega arith in
-    let line : c.copy-from-slice.new.self ≡ line_of key = c.copy-from-slice.ensures.after ∙ c.line-of.ensures in
-    let put : put_mid at ((at + 6) - at) bytes c.copy-from-slice.new.self ≡ take (6 * i) bytes ++ (line_of key ++ drop 6 (drop (6 * i) bytes)) = λ j. put_mid (at-is j) (six j) bytes (line j) in
+    let line : c.copy_from_slice.new.self ≡ line_of key = c.copy_from_slice.ensures.after ∙ c.line_of.ensures in
+    let put : put_mid at ((at + 6) - at) bytes c.copy_from_slice.new.self ≡ take (6 * i) bytes ++ (line_of key ++ drop 6 (drop (6 * i) bytes)) = λ j. put_mid (at-is j) (six j) bytes (line j) in
     record {
       answer = sym (cond-false _ _ _ free ∙ cond-false _ _ _ (ne_eqb (cond t.intact (blanks (lines bytes)) 0) 0 (some_room t.intact h bytes key free i fits got.1.2 small)));
       after = spends t.intact h bytes key free i fits got.1.2 small _ put;

@@ -15,16 +15,16 @@ returns-then-bytes-ne0 c =
     let refused : accepted h bytes ≡ false = ⊎_elim (λ (e : accepted h bytes ≡ true). absurd (c.if-bytes-ne0.true (whole (2 ^ h) bytes (keys_most c.args.height) e))) (λ (e : accepted h bytes ≡ false). e) (cases_Bool (accepted h bytes)) in
     record { answer = sym (cond-false (accepted h bytes) None (Some Damaged) refused); law = tapes_hold }
 
-pub returns-then-not-are-sound : goal.returns-then-not-are-sound
-returns-then-not-are-sound c =
+pub returns-then-not-are_sound : goal.returns-then-not-are_sound
+returns-then-not-are_sound c =
     let h = levels c.args.height in
     let bytes = c.args.bytes.now in
-    let told = c.if-not-are-sound.ensures ∙ ap (λ limit. sound limit (lines bytes)) c.keys.ensures in
+    let told = c.if-not-are_sound.ensures ∙ ap (λ limit. sound limit (lines bytes)) c.keys.ensures in
     record { answer = sym (cond-false (accepted h bytes) None (Some Damaged) (sym told)); law = tapes_hold }
 
 pub returns : goal.returns
 returns c =
     let h = levels c.args.height in
     let bytes = c.args.bytes.now in
-    let told = c.if-not-are-sound.ensures ∙ ap (λ limit. sound limit (lines bytes)) c.keys.ensures in
+    let told = c.if-not-are_sound.ensures ∙ ap (λ limit. sound limit (lines bytes)) c.keys.ensures in
     record { answer = sym (cond-true (accepted h bytes) None (Some Damaged) (sym told)); law = tapes_hold }

@@ -10,10 +10,10 @@ pub returns : goal.returns
 returns c =
     let was = c.args.bytes.now in
     let bytes : c.if-intact.bytes ≡ cond (whole_lines was) (spaces (length was)) was = search rules in
-    let intact : c.is-ok-intact.result ≡ whole_lines was = search rules in
+    let intact : c.is_ok-intact.result ≡ whole_lines was = search rules in
     record {
       bytes = bytes;
       height = refl;
       intact = intact;
-      fresh = λ w k. spaces_free (length was) (levels c.args.height) k c.is-ok-intact.result c.if-intact.bytes w (intact ∙ w) (bytes ∙ cond-true (whole_lines was) (spaces (length was)) was w);
+      fresh = λ w k. spaces_free (length was) (levels c.args.height) k c.is_ok-intact.result c.if-intact.bytes w (intact ∙ w) (bytes ∙ cond-true (whole_lines was) (spaces (length was)) was w);
     }
