@@ -9,10 +9,10 @@ returns-then-index-sources g c =
     let x = c.index-sources-index.result in
     let key = c.args.key in
     let prefix = c.args.prefix.now in
-    c.check-pad.ensures
-    ∙ ap (λ y. (f y).check key prefix) (c.index-sources-index.is ∙ ap (λ i. get_or sources i x) c.saturating-sub-index.ensures)
-    ∙ sym (ap (λ s. s.check key prefix) (source_at f sources c.args.trustee x (omega (arith, c.saturating-sub-index.ensures))))
+    c.check_pad.ensures
+    ∙ ap (λ y. (f y).check key prefix) (c.index-sources-index.is ∙ ap (λ i. get_or sources i x) c.saturating_sub-index.ensures)
+    ∙ sym (ap (λ s. s.check key prefix) (source_at f sources c.args.trustee x (omega (arith, c.saturating_sub-index.ensures))))
 
 pub returns-else-index-sources : goal.returns-else-index-sources
 returns-else-index-sources g c =
-    sym (ap (λ s. s.check c.args.key c.args.prefix.now) (source_past g.P.Pads.source c.args.sources.now c.args.trustee (omega (arith, c.saturating-sub-index.ensures))))
+    sym (ap (λ s. s.check c.args.key c.args.prefix.now) (source_past g.P.Pads.source c.args.sources.now c.args.trustee (omega (arith, c.saturating_sub-index.ensures))))

@@ -21,17 +21,17 @@ use Rattle.dealer.proofs.Tabling.{tabling}
 use Rattle.dealer.proofs.Placing.{same_refusal, is_whole, put_back, put_there, put_over, is_tabled, both}
 use Rattle.dealer.proofs.dealers.Dealer.deal_part.Goals as goal
 
-pub returns-in-err-key-sheet : goal.returns-in-err-key-sheet
-returns-in-err-key-sheet g c =
-    let q = err_from_is_err_and c.from-residual.result c.from-residual.ensures.1 in
+pub returns-in_err-key_sheet : goal.returns-in_err-key_sheet
+returns-in_err-key_sheet g c =
+    let q = err_from_is_err_and c.from_residual.result c.from_residual.ensures.1 in
     let p = view c.args.self.now.plan in
     let sources = map g.P.Pads.source c.args.sources.now in
     let table = c.args.table.now in
-    let a = c.part-range-start.result.0 in
-    let e = c.part-range-start.result.1 in
-    let size : e - a ≡ part_size p c.args.key (length table) = omega (arith, c.part-range-start.ensures.start, c.part-range-start.ensures.end) in
-    let slice : length (part a (e - a) table) ≡ e - a = length_part table a (e - a) (omega (arith, c.part-range-start.ensures.inside.0, c.part-range-start.ensures.inside.1)) in
-    let refused = c.in-err-key-sheet.ensures in
+    let a = c.part_range-start.result.0 in
+    let e = c.part_range-start.result.1 in
+    let size : e - a ≡ part_size p c.args.key (length table) = omega (arith, c.part_range-start.ensures.start, c.part_range-start.ensures.end) in
+    let slice : length (part a (e - a) table) ≡ e - a = length_part table a (e - a) (omega (arith, c.part_range-start.ensures.inside.0, c.part_range-start.ensures.inside.1)) in
+    let refused = c.in_err-key_sheet.ensures in
     record {
       answer = rw (q.1, q.2) (refused.answer ∙ ap (λ n. option_map handed_on (refusal p sources c.args.key n)) (slice ∙ size) ∙ ap (option_map handed_on) (same_refusal p sources c.args.key (length table)));
       held = rw q.1 (put_back a e table c.key_sheet.new.out (ap length refused.held ∙ slice) refused.held);
@@ -47,41 +47,41 @@ returns g c =
     let sources = map g.P.Pads.source c.args.sources.now in
     let key = c.args.key in
     let table = c.args.table.now in
-    let a = c.part-range-start.result.0 in
-    let e = c.part-range-start.result.1 in
+    let a = c.part_range-start.result.0 in
+    let e = c.part_range-start.result.1 in
     let sheet = c.key_sheet.new.out in
     let bytes = c.split.new.rows in
-    let inside : (a ≤ e) × (e ≤ length table) = (c.part-range-start.ensures.inside.0, c.part-range-start.ensures.inside.1) in
-    let size : e - a ≡ part_size p key (length table) = omega (arith, c.part-range-start.ensures.start, c.part-range-start.ensures.end) in
+    let inside : (a ≤ e) × (e ≤ length table) = (c.part_range-start.ensures.inside.0, c.part_range-start.ensures.inside.1) in
+    let size : e - a ≡ part_size p key (length table) = omega (arith, c.part_range-start.ensures.start, c.part_range-start.ensures.end) in
     let ls : length sheet ≡ e - a = search rules in
     let lb : length bytes ≡ e - a = search rules in
     let there = put_there a e table sheet (omega (arith, inside.0, inside.1)) ls in
-    let did = answered (refusal p sources key _) (split_for p sources key _ (owner p key)) bytes c.in-ok-split.ensures.answer in
+    let did = answered (refusal p sources key _) (split_for p sources key _ (owner p key)) bytes c.in_ok-split.ensures.answer in
     let slice = put_mid a (e - a) table sheet in
     let none : refusal p sources key (part_size p key (length table)) ≡ None = ap (refusal p sources key) (sym (ap length there ∙ ls ∙ size)) ∙ did.0 in
     let all = all_passed p sources key (part_size p key (length table)) none in
     let dealt : bytes ≡ split_for p sources key sheet (owner p key) = sym did.1 ∙ ap (λ x. split_for p sources key x (owner p key)) there in
     let over : put_mid a (e - a) slice bytes ≡ tabled p key bytes table =
-    put_over a e table sheet bytes (omega (arith, inside.0, inside.1)) ls lb ∙ is_tabled p key all.g a bytes table all.owns c.part-range-start.ensures.start (is_whole p sources key (length table) none) in
+    put_over a e table sheet bytes (omega (arith, inside.0, inside.1)) ls lb ∙ is_tabled p key all.g a bytes table all.owns c.part_range-start.ensures.start (is_whole p sources key (length table) none) in
     record {
       answer = sym (ap (option_map handed_on) (sym (same_refusal p sources key (length table)) ∙ none));
-      held = over ∙ ap (λ x. tabled p key x table) (dealt ∙ ap (λ x. split_for p sources key x (owner p key)) c.in-ok-key-sheet.ensures.held);
-      dealt = λ ready. over ∙ ap (λ x. tabled p key x table) (dealt ∙ ap (λ x. split_for p sources key x (owner p key)) (c.in-ok-key-sheet.ensures.dealt ready));
+      held = over ∙ ap (λ x. tabled p key x table) (dealt ∙ ap (λ x. split_for p sources key x (owner p key)) c.in_ok-key_sheet.ensures.held);
+      dealt = λ ready. over ∙ ap (λ x. tabled p key x table) (dealt ∙ ap (λ x. split_for p sources key x (owner p key)) (c.in_ok-key_sheet.ensures.dealt ready));
       tables = tabling p (plan_ranges d.plan) (places p (plan_ranges d.plan));
     }
 
 -- what the key sheet was not refused for, splitting is not either
-pub returns-in-err-split : goal.returns-in-err-split
-returns-in-err-split g c =
+pub returns-in_err-split : goal.returns-in_err-split
+returns-in_err-split g c =
     let p = view c.args.self.now.plan in
     let sources = map g.P.Pads.source c.args.sources.now in
     let key = c.args.key in
     let table = c.args.table.now in
-    let a = c.part-range-start.result.0 in
-    let e = c.part-range-start.result.1 in
+    let a = c.part_range-start.result.0 in
+    let e = c.part_range-start.result.1 in
     let sheet = c.key_sheet.new.out in
-    let inside : (a ≤ e) × (e ≤ length table) = (c.part-range-start.ensures.inside.0, c.part-range-start.ensures.inside.1) in
+    let inside : (a ≤ e) × (e ≤ length table) = (c.part_range-start.ensures.inside.0, c.part_range-start.ensures.inside.1) in
     let ls : length sheet ≡ e - a = search rules in
     let there = put_there a e table sheet (omega (arith, inside.0, inside.1)) ls in
     let slice : length (part a (e - a) table) ≡ e - a = length_part table a (e - a) (omega (arith, inside.0, inside.1)) in
-    absurd (both p sources key _ _ (slice ∙ sym (ap length there ∙ ls)) c.in-ok-key-sheet.ensures.answer c.in-err-split.ensures.answer.0)
+    absurd (both p sources key _ _ (slice ∙ sym (ap length there ∙ ls)) c.in_ok-key_sheet.ensures.answer c.in_err-split.ensures.answer.0)

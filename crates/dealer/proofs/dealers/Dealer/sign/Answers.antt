@@ -15,7 +15,7 @@ returns g c =
     let message = c.args.message.now in
     let out = c.sign.new.out in
     let H = g.H.Hash in
-    let did = c.in-ok-sign.ensures in
+    let did = c.in_ok-sign.ensures in
     let found = one_owns p [] key 0 c.in-Some.field-0 c.in-Some.ensures.value in
     record {
       answer = signs p (tall d.tree) (wide d.tree) key (length message) (length c.args.out.now) found.0 d.tall d.wide found.1 did.answer;

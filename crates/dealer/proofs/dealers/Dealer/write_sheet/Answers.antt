@@ -27,9 +27,9 @@ returns g c =
     let a : ℕ = 32 + 32 * c.size.result in
     let b : ℕ = a + 32 * c.levels.result in
     let C = c.prefix-prefix.result in
-    let y = c.write-checks.new.out in
-    let z = c.write-path.new.out in
-    let x = c.write-components.new.out in
+    let y = c.write_checks.new.out in
+    let z = c.write_path.new.out in
+    let x = c.write_components.new.out in
     let o₁ = c.put.new.out in
     let o₂ = put_mid 32 (a - 32) o₁ y in
     let o₃ = put_mid a (b - a) o₂ z in
@@ -44,17 +44,17 @@ returns g c =
     let lev : c.levels.result ≡ h = c.levels.ensures ∙ ap levels c.height-height.ensures in
     let whole : length out ≡ b + 32 * (components w * positions w) = c.requires.room ∙ omega (arith, lev, c.size.ensures) in
     let path_room : length (part a (b - a) o₂) ≡ 32 * tall d.tree = length_part o₂ a (b - a) (omega (arith, l₂, whole)) ∙ omega (arith, lev, d.tall) in
-    let path : z ≡ rows (tall d.tree) (held_path d.tree key) = not_refused c.write-path.result _ _ (tall d.tree) key _ c.write-path.ensures.answer (omega (arith, c.requires.small, ap (λ n. 2 ^ n) d.tall)) (eq-eqb _ _ path_room) c.write-path.ensures.held in
+    let path : z ≡ rows (tall d.tree) (held_path d.tree key) = not_refused c.write_path.result _ _ (tall d.tree) key _ c.write_path.ensures.answer (omega (arith, c.requires.small, ap (λ n. 2 ^ n) d.tall)) (eq-eqb _ _ path_room) c.write_path.ensures.held in
     let rest-room : length (part b (length o₃ - b) o₃) ≡ 32 * (components (bits c.width.result) * positions (bits c.width.result)) =
     length_part o₃ b (length o₃ - b) (omega (arith, l₃, whole)) ∙ omega (arith, l₃, whole) ∙ ap (λ v. 32 * (components (bits v) * positions (bits v))) (sym c.width.ensures) in
     let rest : x ≡ all_components H c.identifier-id.result.bytes c.seed-seed.result.bytes (bits c.width.result) key =
-    not_refused c.write-components.result _ _ (levels c.height-height.result) key _ c.write-components.ensures.answer
-    (omega (arith, c.requires.small, ap (λ v. 2 ^ levels v) c.height-height.ensures)) (eq-eqb _ _ rest-room) c.write-components.ensures.written in
+    not_refused c.write_components.result _ _ (levels c.height-height.result) key _ c.write_components.ensures.answer
+    (omega (arith, c.requires.small, ap (λ v. 2 ^ levels v) c.height-height.ensures)) (eq-eqb _ _ rest-room) c.write_components.ensures.written in
     let own : C ≡ prefix H (i_of d) (seed_of d) key = c.prefix-prefix.ensures ∙ (λ i. prefix H (c.identifier-id.ensures i).bytes (c.seed-seed.ensures i).bytes key) in
     four_parts 32 a b (length out) o₁ o₂ o₃ o₄ C y z x l₄
     (put_behind out o₁ C 0 32 c.put.ensures.inside (omega (arith, whole)) (omega (arith, lC)))
     (take-put_mid 32 (a - 32) o₁ y a (omega (arith, l₁, whole)) (omega arith))
     (take-put_mid a (b - a) o₂ z b (omega (arith, l₂, whole)) (omega arith))
     (take-put_mid b (length o₃ - b) o₃ x (length out) (omega (arith, l₃, whole)) (omega (arith, l₃, whole)))
-    ∙ (λ i. own i ++ (c.write-checks.ensures ∙ ap (check_rows sources ts key) own) i ++ (path ∙ ap (λ n. rows n (held_path d.tree key)) d.tall) i
+    ∙ (λ i. own i ++ (c.write_checks.ensures ∙ ap (check_rows sources ts key) own) i ++ (path ∙ ap (λ n. rows n (held_path d.tree key)) d.tall) i
     ++ (rest ∙ (λ j. all_components H (c.identifier-id.ensures j).bytes (c.seed-seed.ensures j).bytes (bits (c.width.ensures j)) key)) i)
