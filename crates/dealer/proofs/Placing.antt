@@ -1,22 +1,22 @@
 -- A part, written at its place in the table.
 use borrow.Rule.Slice.PartMut.{put_mid}
-use Rattle.std.proofs.Common.{◌≡◌, ℕ, ◌+◌, ◌-◌, ◌*◌, ◌<◌, ◌≤◌, Bool, true, false, cond, eqb, List, ◌++◌, length, take, drop, Some, None, Ok, Err, Option, sym, refl, ap, ◌∙◌, ap₂, ⊎_elim, append_assoc, arith}
+use Rattle.std.proofs.Common.{◌≡◌, ℕ, ◌+◌, ◌-◌, ◌*◌, ◌≤◌, Bool, true, false, eqb, List, ◌++◌, length, take, drop, Some, None, Ok, Err, Option, sym, refl, ap, ◌∙◌, ap₂, ⊎_elim, append_assoc, arith}
 use Rattle.std.specs.Option.{option_map}
 use Rattle.std.proofs.lemmas.List.{take-append-drop}
 use Rattle.std.proofs.lemmas.Slice.{take-put_mid_below, drop-put_mid, between-put_mid}
-use Rattle.std.proofs.lemmas.Bool.{cases_Bool, cond-true, cond-false, eq-eqb, ne_eqb, eqb-true}
+use Rattle.std.proofs.lemmas.Bool.{cases_Bool, cond-false, eq-eqb, ne_eqb, eqb-true}
 use Rattle.rows.specs.Bytes.{part}
 use Rattle.rows.proofs.Rows.{placed, part_then}
 use Rattle.plan.specs.Shape.{Shape}
 use Rattle.plan.specs.Keys.{owner}
-use Rattle.layout.specs.Table.{rows_of_group, table_rows, section_of, place_in, by_owner, in_table, part_start, part_size}
+use Rattle.layout.specs.Table.{rows_of_group, table_rows, section_of, place_in, by_owner, part_start, part_size}
 use Rattle.layout.proofs.Lying.{in_whole}
 use Rattle.pads.specs.Source.{Source}
 use Rattle.splitting.specs.declared.refusal.Refusal.{Refusal}
 use Rattle.splitting.specs.declared.refusal.Refusal.TheVariants.{Sources, SameChecks, Buffer, NotHeld}
 use Rattle.splitting.specs.Sources.{distinct, all_hold}
 use Rattle.splitting.specs.Split.{unless, members_of, of_owner, refusal_if, part_long, refusal, split_for, answer, split}
-use Rattle.splitting.proofs.Undone.{Passed, all_passed}
+use Rattle.splitting.proofs.Undone.{all_passed}
 use Rattle.dealer.specs.Refusals.{handed_on}
 use Rattle.dealer.specs.Tabled.{written_at, at_place, tabled}
 

@@ -1,11 +1,10 @@
 -- What the tree does not refuse, the dealer does not.
-use Rattle.std.proofs.Common.{◌≡◌, ℕ, ◌^◌, Bool, true, false, cond, eqb, ltb, leb, Some, None, Option, sym, refl, ap, ◌∙◌, subst, arith}
+use Rattle.std.proofs.Common.{◌≡◌, ℕ, ◌^◌, Bool, true, false, cond, eqb, ltb, leb, Some, None, Option, sym, refl, ap, ◌∙◌, arith}
 use Rattle.plan.specs.Shape.{Shape}
 use Rattle.plan.specs.Keys.{owner}
 use Rattle.lms.specs.Lms.{signature_length}
 use Rattle.lms.specs.Numbers.{signing}
 use Rattle.splitting.specs.Split.{unless}
-use Rattle.dealer.specs.declared.refusal.Refusal.{Refusal}
 use Rattle.dealer.specs.declared.refusal.Refusal.TheVariants.{Undealt, Buffer, Message}
 use Rattle.dealer.specs.Dealt.{is_dealt, sign_refusal}
 

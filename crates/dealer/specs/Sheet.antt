@@ -1,5 +1,5 @@
 -- A key sheet: all rows of a key before they are split; and a key's part: its key sheet, split.
-use Rattle.std.specs.Prelude.{ℕ, cond, List, [], ◌++◌, length, Some, None, Option, slice_index}
+use Rattle.std.specs.Prelude.{ℕ, List, [], ◌++◌, length, Some, None, Option, slice_index}
 use Rattle.rows.specs.Bytes.{rows}
 use Rattle.plan.specs.Shape.{Shape}
 use Rattle.plan.specs.Keys.{owner}

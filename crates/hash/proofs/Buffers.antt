@@ -1,8 +1,8 @@
 -- What a buffer of n bytes holds as bytes come in.
 use Rattle.std.proofs.Common.{◌≡◌, ℕ, ◌+◌, ◌-◌, ◌<◌, ◌≤◌, List, [], ◌∷◌, ◌++◌, length, take, drop, replicate, sym, refl, ap, ◌∙◌, arith}
-use Rattle.std.proofs.lemmas.List.{append-nil, append_assoc, length-append, length-take-le, length-drop, take_at, take-append-drop, drop_all, drop_at, drop-replicate, length-replicate, replicate-append-replicate}
+use Rattle.std.proofs.lemmas.List.{append-nil, append_assoc, length-append, length-take-le, take_at, take-append-drop, drop_all, drop_at, drop-replicate, length-replicate, replicate-append-replicate}
 use Rattle.hash.specs.Buffers.{written}
-use Rattle.hash.specs.Chaining.{Chain, link, chained}
+use Rattle.hash.specs.Chaining.{link, chained}
 use Rattle.hash.proofs.Chaining.{chained_joined, chained_short, chained_full}
 
 -- a write over q, where p stands before it

@@ -1,6 +1,6 @@
 -- The masked key as the pieces that the hash takes in.
-use Rattle.std.proofs.Common.{◌≡◌, ℕ, zero, suc, ◌+◌, ◌-◌, ◌<◌, ◌≤◌, List, [], ◌∷◌, ◌++◌, map, length, take, replicate, sym, refl, ap, ◌∙◌, arith}
-use lib.Bits.{bit_xor, xor_zero_l}
+use Rattle.std.proofs.Common.{◌≡◌, ℕ, zero, suc, ◌+◌, ◌-◌, ◌≤◌, List, ◌∷◌, ◌++◌, map, length, take, replicate, sym, refl, ap, ◌∙◌, arith}
+use lib.Bits.{bit_xor}
 use Rattle.std.proofs.lemmas.List.{append-nil, append_assoc, map-append, take-replicate, replicate-append-replicate}
 use Rattle.hash.specs.Rfc2104.{masked}
 

@@ -1,5 +1,5 @@
 -- One round, as the loop has it.
-use Rattle.std.proofs.Common.{◌≡◌, ℕ, suc, ◌+◌, ◌<◌, List, [], ◌∷◌, ◌++◌, get_or, set, sym, refl, ap, ◌∙◌, add-one}
+use Rattle.std.proofs.Common.{◌≡◌, ℕ, ◌+◌, ◌<◌, List, get_or, set, sym, refl, ap, ◌∙◌, add-one}
 use lib.Bits.{bit_xor}
 use Rattle.keccak.specs.Fips202.{theta, rho, pi, chi, iota, constant, constants, round, rounds}
 use Rattle.keccak.proofs.Tables.{constant_is}

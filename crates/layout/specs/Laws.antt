@@ -1,5 +1,5 @@
 -- How the parts of a plan's keys lie to each other.
-use Rattle.std.specs.Prelude.{◌≡◌, ℕ, ◌+◌, ◌<◌, ◌≤◌}
+use Rattle.std.specs.Prelude.{ℕ, ◌+◌, ◌<◌, ◌≤◌}
 use Rattle.plan.specs.Shape.{Shape}
 use Rattle.plan.specs.Keys.{Owns}
 use Rattle.layout.specs.Table.{rows_of_group, section_of, place_in, table_rows}

@@ -1,5 +1,5 @@
 -- One bit set in a row of bytes.
-use Rattle.std.proofs.Common.{◌≡◌, ℕ, zero, suc, ◌+◌, ◌-◌, ◌*◌, ◌/◌, ◌%◌, ◌^◌, ◌<◌, ◌≤◌, Bool, true, false, cond, ◌||◌, eqb, leb, ◌≢◌, ◌⊎◌, List, length, get_or, set, replicate, Some, None, Option, sym, refl, ap, ◌∙◌, inl, inr, ⊎_elim, mod-lt, arith, pow_mono}
+use Rattle.std.proofs.Common.{◌≡◌, ℕ, zero, suc, ◌+◌, ◌-◌, ◌*◌, ◌/◌, ◌%◌, ◌^◌, ◌<◌, ◌≤◌, Bool, true, false, ◌||◌, eqb, leb, List, length, get_or, set, replicate, None, Option, sym, refl, ap, ◌∙◌, inl, ⊎_elim, mod-lt, arith, pow_mono}
 use native.Mathlib.Nat.{div-eq_of_lt, div_self, div-add-mod, mul-mod_left}
 use lib.Bits.{bit_or, bit_and}
 use Rattle.std.proofs.lemmas.Nat.{pow_pos, pow-add, shl-shr, one_shl, or_shr, or_mod, pow_below, and_mask, div_below}

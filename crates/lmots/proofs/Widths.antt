@@ -7,7 +7,7 @@ use Rattle.rows.specs.Bytes.{u16str}
 use Rattle.sizes.specs.declared.width.Width.{Width}
 use Rattle.sizes.specs.declared.width.Width.TheVariants.{One, Two, Four, Eight}
 use Rattle.sizes.specs.Sizes.{bits}
-use Rattle.lmots.specs.LmOts.{u, v, p, ls, coef, missing, checksum}
+use Rattle.lmots.specs.LmOts.{u, coef, missing, checksum}
 
 -- a number of bits that is a width
 abbrev pub Known : ℕ → Type 0

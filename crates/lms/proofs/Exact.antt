@@ -1,9 +1,8 @@
 -- What is accepted fits together.
-use Rattle.std.proofs.Common.{◌≡◌, ℕ, ◌+◌, ◌*◌, ◌<◌, ◌≤◌, true, eqb, ltb, leb, List, ◌++◌, length, get_or, sym, refl, ap, ◌∙◌, ap₂, arith}
-use Rattle.std.specs.Str.{bytes_eq}
+use Rattle.std.proofs.Common.{◌≡◌, ℕ, ◌+◌, ◌*◌, ◌<◌, ◌≤◌, true, List, ◌++◌, length, get_or, sym, refl, ap, ◌∙◌, ap₂, arith}
 use Rattle.std.proofs.lemmas.Slice.Eq.{bytes_eq-Decides}
 use Rattle.std.proofs.lemmas.Bool.{and_parts, leb-true, ltb-true, eqb-true}
-use Rattle.rows.specs.Bytes.{u32str, str_tou32, part, row_at, rows}
+use Rattle.rows.specs.Bytes.{u32str, str_tou32, part, row_at}
 use Rattle.rows.proofs.Numbers.{bytes_back}
 use Rattle.rows.proofs.Rows.{rows_whole, length_part}
 use Rattle.sizes.specs.declared.height.Height.{Height}

@@ -1,6 +1,5 @@
 -- The public number of each refusal, and the order in which a call's checks refuse.
 use Rattle.std.specs.Prelude.{ℕ, ◌^◌, Bool, cond, Some, None, Ok, Err, Option, Result, ◌==◌, nat_le, nat_lt}
-use Rattle.lmots.specs.LmOts.{p}
 use Rattle.lms.specs.Lms.{signature_length}
 use Rattle.lms.specs.declared.refusal.Refusal.{Refusal}
 use Rattle.lms.specs.declared.refusal.Refusal.TheVariants.{Key, Buffer, Message}

@@ -1,5 +1,5 @@
 -- What a group that was looked up is.
-use Rattle.std.proofs.Common.{◌≡◌, ℕ, ◌+◌, ◌*◌, ◌^◌, ◌<◌, ◌≤◌, Bool, true, false, cond, ltb, leb, length, get_or, take, Some, None, Option, sym, refl, ap, ◌∙◌, subst, ⊎_elim, arith}
+use Rattle.std.proofs.Common.{◌≡◌, ℕ, ◌+◌, ◌^◌, ◌<◌, ◌≤◌, ltb, leb, length, get_or, take, Some, None, ap, ◌∙◌, ⊎_elim, arith}
 use Rattle.std.proofs.lemmas.List.{length-take-le, get_or-take}
 use Rattle.std.proofs.lemmas.Bool.{cases_lt, lt-ltb, le-ltb, cond-true, cond-false, and_parts, leb-true}
 use Rattle.sizes.specs.declared.height.Height.{Height}
@@ -10,7 +10,7 @@ use Rattle.plan.specs.declared.plans.Plan.{Plan}
 use Rattle.plan.specs.Shape.{Shape, Valid, is_groups}
 use Rattle.plan.specs.Laws.{Ranges}
 use Rattle.plan.specs.View.{view}
-use Rattle.plan.specs.Keys.{share, first_key, key_count}
+use Rattle.plan.specs.Keys.{first_key, key_count}
 use Rattle.plan.specs.Groups.{group_of, group_at}
 use Rattle.plan.proofs.Copied.{height_is, width_is}
 use Rattle.plan.proofs.Shares.{some, later, dealt, ranges}

@@ -4,7 +4,7 @@ use lib.Bits.{bit_and}
 use lib.Count.{ones}
 use Rattle.std.specs.List.{range_with_len}
 use Rattle.std.specs.Option.{option_map}
-use Rattle.std.proofs.lemmas.Bool.{and_parts, and_left, and_right, cases_Bool, cases_eq, cases_lt, cond_both, cond-true, cond-false, eqb-true, eqb-false, eq-eqb, ne_eqb, lt-leb, le-leb, leb-true, false≢true}
+use Rattle.std.proofs.lemmas.Bool.{and_parts, and_left, and_right, cases_Bool, cases_lt, cond_both, cond-true, cond-false, eqb-true, eq-eqb, ne_eqb, lt-leb, le-leb, leb-true, false≢true}
 use Rattle.std.proofs.lemmas.Nat.{and_mask, one_shl}
 use Rattle.plan.specs.Every.{every}
 use Rattle.plan.specs.Members.{members, members_from, has, place}

@@ -1,9 +1,9 @@
 -- The key ranges of a plan.
-use Rattle.std.proofs.Common.{◌≡◌, ℕ, zero, suc, ◌+◌, ◌-◌, ◌*◌, ◌/◌, ◌%◌, ◌^◌, ◌<◌, ◌≤◌, Bool, true, false, cond, ◌&&◌, ltb, leb, ◌⊎◌, List, length, Some, None, Option, sym, refl, ap, ◌∙◌, subst, inl, inr, ⊎_elim, mul_comm, mul-le-mul_left, mul-zero, mul-one, mul-add, arith}
+use Rattle.std.proofs.Common.{◌≡◌, ℕ, zero, suc, ◌+◌, ◌-◌, ◌*◌, ◌/◌, ◌%◌, ◌^◌, ◌<◌, ◌≤◌, Bool, true, false, ltb, leb, ◌⊎◌, List, length, Some, None, Option, sym, refl, ap, ◌∙◌, subst, inl, inr, ⊎_elim, mul_comm, mul-le-mul_left, mul-zero, mul-one, mul-add, arith}
 use Rattle.std.proofs.lemmas.Nat.{le-div, div-add-mod', div_below, mod_below}
 use Rattle.std.proofs.lemmas.Bool.{and_parts, and_from, cases_Bool, cases_order, cases_lt, cond-true, cond-false, leb-true, le-leb, ltb-true, lt-ltb}
 use Rattle.plan.specs.Shape.{Shape}
-use Rattle.plan.specs.Keys.{share, first_key, key_count, Owns, in_range, owner_from, owner, undealt}
+use Rattle.plan.specs.Keys.{share, first_key, key_count, Owns, in_range, owner_from, owner}
 use Rattle.plan.specs.Laws.{Ranges, TenGroups, ten_groups}
 
 pub range_from : (first count key : ℕ) → first ≤ key → key < first + count → in_range first count key ≡ true

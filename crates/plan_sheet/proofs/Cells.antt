@@ -1,18 +1,17 @@
 -- The eight fields of a group line, and the mask that they write.
-use Rattle.std.proofs.Common.{◌≡◌, ℕ, zero, suc, ◌+◌, ◌-◌, ◌*◌, ◌/◌, ◌%◌, ◌^◌, ◌<◌, ◌≤◌, Bool, true, false, cond, ◌&&◌, ◌||◌, eqb, ltb, leb, List, [], ◌∷◌, ◌++◌, length, get_or, replicate, is_some, Some, None, Option, unwrap_or, sym, refl, ap, ◌∙◌, subst, ⊎_elim, append_assoc, mul_assoc, mul-one, mul-add, arith, pow_mono}
+use Rattle.std.proofs.Common.{◌≡◌, ℕ, zero, suc, ◌+◌, ◌-◌, ◌*◌, ◌/◌, ◌%◌, ◌^◌, ◌<◌, ◌≤◌, Bool, true, false, cond, ◌&&◌, eqb, ltb, leb, List, [], ◌∷◌, ◌++◌, length, is_some, Some, None, Option, unwrap_or, sym, refl, ap, ◌∙◌, ⊎_elim, append_assoc, mul_assoc, mul-one, mul-add, arith, pow_mono}
 use native.Mathlib.Nat.{pow-succ'}
 use Rattle.std.specs.List.{flat_map}
 use Rattle.std.proofs.lemmas.Nat.{pow-add}
-use Rattle.std.proofs.lemmas.List.{append-nil, replicate-append-replicate, nil_from_length}
-use Rattle.std.proofs.lemmas.Bool.{ne_eqb, eqb-true, leb-true, ltb-true, cond-true, cond-false, and_parts, or_cases, or_left, or_right, and_from, le-leb, cases_Bool, false≢true}
+use Rattle.std.proofs.lemmas.List.{replicate-append-replicate, nil_from_length}
+use Rattle.std.proofs.lemmas.Bool.{ne_eqb, eqb-true, leb-true, ltb-true, cond-false, and_parts, or_cases, cases_Bool, false≢true}
 use Rattle.plan_sheet.specs.declared.refusal.Refusal.{Refusal}
-use Rattle.plan_sheet.specs.declared.refusal.Refusal.TheVariants.{NoNumber, OutOfRange}
 use Rattle.columns.specs.Number.{spaces, right, unpadded, read_on, plain, number}
 use Rattle.plan.specs.Members.{members, members_from}
 use Rattle.plan_sheet.specs.Entries.{orderly, bit, mask_of}
 use Rattle.plan_sheet.specs.Checks.{first, check, worth, entry_faults}
 use Rattle.columns.specs.Number.{blank}
-use Rattle.columns.proofs.Text.{padded, number_is, number_right, length_right}
+use Rattle.columns.proofs.Text.{padded, number_is}
 use Rattle.plan_sheet.proofs.Groups.{bit_some, pow_double}
 
 -- how an entry is written, 0 for a blank

@@ -1,22 +1,20 @@
 -- The sheet of a plan has no fault, and says that plan.
-use Rattle.std.proofs.Common.{◌≡◌, ℕ, zero, suc, ◌+◌, ◌-◌, ◌*◌, ◌/◌, ◌%◌, ◌^◌, ◌<◌, ◌≤◌, Bool, true, false, cond, ◌&&◌, ◌||◌, eqb, ltb, leb, List, [], ◌∷◌, ◌++◌, map, length, get_or, take, drop, is_some, Some, None, Option, unwrap_or, sym, refl, ap, ◌∙◌, subst, ⊎_elim, append_assoc, arith}
+use Rattle.std.proofs.Common.{◌≡◌, ℕ, zero, suc, ◌+◌, ◌-◌, ◌*◌, ◌%◌, ◌^◌, ◌<◌, ◌≤◌, Bool, true, ◌&&◌, ◌||◌, eqb, ltb, leb, List, [], ◌∷◌, ◌++◌, map, length, get_or, drop, is_some, Some, None, unwrap_or, sym, refl, ap, ◌∙◌, subst, ⊎_elim, append_assoc, arith}
 use Rattle.std.specs.List.{flat_map, range_with_len}
 use Rattle.std.proofs.lemmas.List.{drop_at, drop-drop, length-append, append-nil}
-use Rattle.std.proofs.lemmas.Bool.{eq-eqb, ne_eqb, le-leb, lt-ltb, leb-true, eqb-true, or_cases, or_right, and_from, and_parts, cond-true, cond-false, cases_eq}
-use Rattle.plan_sheet.specs.declared.refusal.Refusal.{Refusal}
-use Rattle.plan_sheet.specs.declared.refusal.Refusal.TheVariants.{Layout, NoNumber, OutOfRange, Members, Groups}
+use Rattle.std.proofs.lemmas.Bool.{eq-eqb, ne_eqb, le-leb, lt-ltb, leb-true, eqb-true, or_cases, or_right, and_from, and_parts, cond-false, cases_eq}
+use Rattle.plan_sheet.specs.declared.refusal.Refusal.TheVariants.{NoNumber, OutOfRange, Members, Groups}
 use Rattle.plan.specs.Shape.{Shape, Valid, is_trustees, is_groups}
 use Rattle.sizes.specs.Sizes.{is_height, is_width}
 use Rattle.columns.specs.Number.{right, number}
 use Rattle.plan_sheet.specs.Written.{written, heading, group_line}
 use Rattle.plan_sheet.specs.Entries.{orderly, mask_of}
-use Rattle.plan_sheet.specs.Checks.{first, check, fed, formed, field_at, worth, quantity_fault, entry_fault, entry_faults, entries, mask_at, above_at, line_fault, members_fault, heading_faults, groups_fault, line_count, fault_of, n_of, h_of, w_of, m_of}
+use Rattle.plan_sheet.specs.Checks.{first, check, fed, formed, field_at, worth, quantity_fault, entry_fault, entry_faults, entries, mask_at, above_at, line_fault, members_fault, heading_faults, groups_fault, line_count, fault_of, h_of, w_of, m_of}
 use Rattle.columns.specs.Number.{blank}
 use Rattle.plan.specs.Every.{every}
 use Rattle.plan_sheet.specs.Law.{plan_of, Complete}
 use Rattle.columns.proofs.Text.{number_right, length_right}
 use Rattle.plan_sheet.proofs.Cells.{cell}
-use Rattle.plan_sheet.proofs.Fields.{trustees_most}
 use Rattle.plan_sheet.proofs.Lines.{past_groups, above_next}
 use Rattle.plan_sheet.proofs.Tables.{spread, Spread, spreads, length_cell}
 use Rattle.plan_sheet.proofs.Places.{length_joined, part_at, fed_is, field_at_is, map_from, first_all, every_all}

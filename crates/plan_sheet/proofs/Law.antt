@@ -1,23 +1,19 @@
 -- A sheet without a fault is the one sheet of a plan.
-use Rattle.std.proofs.Common.{◌≡◌, ℕ, zero, suc, ◌+◌, ◌-◌, ◌*◌, ◌/◌, ◌%◌, ◌^◌, ◌<◌, ◌≤◌, Bool, true, false, cond, ◌&&◌, eqb, ltb, leb, List, [], ◌∷◌, ◌++◌, map, length, get_or, take, drop, is_some, Some, None, Option, unwrap_or, sym, refl, ap, ◌∙◌, subst, ⊎_elim, append_assoc, mul-one, mul-add, arith, take-add}
+use Rattle.std.proofs.Common.{◌≡◌, ℕ, zero, suc, ◌+◌, ◌-◌, ◌*◌, ◌%◌, ◌^◌, ◌<◌, ◌≤◌, Bool, true, List, [], ◌∷◌, ◌++◌, map, length, get_or, take, drop, is_some, Some, None, Option, unwrap_or, sym, refl, ap, ◌∙◌, ⊎_elim, mul-one, mul-add, arith, take-add}
 use Rattle.std.specs.List.{flat_map, range_with_len}
-use Rattle.std.proofs.lemmas.List.{take-append-drop, drop-drop, take_more, get_or-drop, length-take-le, length-drop, drop_all, length-map, get_or-map, append-nil}
-use Rattle.std.proofs.lemmas.Bool.{eqb-true, leb-true, ltb-true, and_parts, false≢true, cases_eq}
+use Rattle.std.proofs.lemmas.List.{take-append-drop, drop-drop, take_more, get_or-drop, length-take-le, length-drop, drop_all, append-nil}
+use Rattle.std.proofs.lemmas.Bool.{eqb-true, leb-true, and_parts, false≢true, cases_eq}
 use Rattle.plan_sheet.specs.declared.refusal.Refusal.{Refusal}
-use Rattle.plan.specs.Shape.{Shape, Valid, is_trustees, is_groups, Within, Rising}
+use Rattle.plan.specs.Shape.{is_trustees, is_groups}
 use Rattle.sizes.specs.Sizes.{is_height, is_width}
-use Rattle.columns.specs.Number.{spaces, right, number}
-use Rattle.plan_sheet.specs.Written.{written, heading, group_line}
-use Rattle.plan.specs.Members.{members}
-use Rattle.plan_sheet.specs.Entries.{orderly, mask_of}
-use Rattle.plan_sheet.specs.Checks.{first, check, fed, formed, field_at, worth, quantity_fault, entry_fault, entry_faults, entries, mask_at, above_at, line_fault, members_fault, heading_faults, groups_fault, line_count, fault_of, n_of, h_of, w_of, m_of}
-use Rattle.plan.specs.Every.{every}
-use Rattle.plan_sheet.specs.Law.{plan_of, Sound}
-use Rattle.plan_sheet.proofs.Lines.{first_none, above_next}
+use Rattle.columns.specs.Number.{right, number}
+use Rattle.plan_sheet.specs.Written.{group_line}
+use Rattle.plan_sheet.specs.Checks.{first, fed, field_at, worth, quantity_fault, entry_fault, entries, mask_at, line_fault, members_fault, heading_faults, line_count, fault_of, n_of, h_of, w_of, m_of}
+use Rattle.plan_sheet.proofs.Lines.{first_none}
 use Rattle.plan_sheet.proofs.Cells.{cell, Under, check_none, field_is, entries_written}
 use Rattle.plan.proofs.Tested.{every_at}
 use Rattle.columns.proofs.Text.{number_is}
-use Rattle.plan_sheet.proofs.Fields.{trustees_most, place_next}
+use Rattle.plan_sheet.proofs.Fields.{place_next}
 
 -- fields one after another
 pub pieces : (w base : ℕ) (s : List ℕ) (f k : ℕ) → 1 ≤ f → take (w * k) (drop (base + w * (f - 1)) s) ≡ flat_map (λ g. take w (drop (base + w * (g - 1)) s)) (range_with_len f k)

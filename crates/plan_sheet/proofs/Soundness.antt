@@ -1,16 +1,15 @@
 -- A sheet without a fault is the one sheet of the plan that it says.
-use Rattle.std.proofs.Common.{◌≡◌, ℕ, zero, suc, ◌+◌, ◌-◌, ◌*◌, ◌^◌, ◌<◌, ◌≤◌, Bool, true, List, [], ◌∷◌, ◌++◌, map, length, get_or, take, drop, None, sym, refl, ap, ◌∙◌, subst, arith, pow_mono}
+use Rattle.std.proofs.Common.{◌≡◌, ℕ, zero, suc, ◌+◌, ◌^◌, ◌<◌, ◌≤◌, List, [], ◌∷◌, ◌++◌, map, length, get_or, take, drop, sym, ap, ◌∙◌, arith}
 use Rattle.std.specs.List.{flat_map, range_with_len}
-use Rattle.std.proofs.lemmas.Nat.{pow_pos}
 use Rattle.std.proofs.lemmas.Bool.{ltb-true, and_parts}
-use Rattle.plan.specs.Shape.{Shape, Valid, is_groups}
+use Rattle.plan.specs.Shape.{Valid, is_groups}
 use Rattle.columns.specs.Number.{right}
 use Rattle.plan_sheet.specs.Written.{written, heading, group_line}
-use Rattle.plan_sheet.specs.Checks.{field_at, worth, entry_fault, entries, mask_at, above_at, line_fault, members_fault, n_of, h_of, w_of, m_of, fault_of}
+use Rattle.plan_sheet.specs.Checks.{field_at, worth, entry_fault, entries, mask_at, above_at, line_fault, members_fault, n_of, h_of, w_of, m_of}
 use Rattle.plan_sheet.specs.Law.{plan_of, Sound}
 use Rattle.plan_sheet.proofs.Lines.{above_next}
 use Rattle.plan_sheet.proofs.Fields.{trustees_most}
-use Rattle.plan_sheet.proofs.Cells.{Under, check_none, field_is, mask_under}
+use Rattle.plan_sheet.proofs.Cells.{check_none, field_is, mask_under}
 use Rattle.plan_sheet.proofs.Law.{Faultless, faultless, first_map, field_long, under_from, length_from, line_is, pieces, groups_are}
 
 pub get_or_from : (V : ℕ → ℕ) (a k g : ℕ) → g < k → get_or (map V (range_with_len a k)) g 0 ≡ V (g + a)

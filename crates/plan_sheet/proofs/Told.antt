@@ -1,12 +1,12 @@
 -- What the reader's answers say of plans.
-use Rattle.std.proofs.Common.{◌≡◌, ℕ, ◌+◌, ◌-◌, ◌^◌, ◌<◌, ◌≤◌, true, false, ◌&&◌, eqb, leb, List, map, length, get_or, take, Some, None, Option, sym, refl, ap, ◌∙◌, subst, arith}
+use Rattle.std.proofs.Common.{◌≡◌, ℕ, ◌+◌, ◌-◌, ◌^◌, true, false, ◌&&◌, eqb, leb, List, map, length, take, Some, None, Option, sym, ap, ◌∙◌, subst, arith}
 use Rattle.std.specs.List.{range_with_len}
 use Rattle.std.proofs.lemmas.List.{ext_get_or, length-take-le, get_or-take}
 use Rattle.plan.specs.Shape.{Shape, Valid}
 use Rattle.plan_sheet.specs.declared.refusal.Refusal.{Refusal}
 use Rattle.plan_sheet.specs.declared.refusal.Refusal.TheVariants.{Groups}
 use Rattle.plan_sheet.specs.Written.{written}
-use Rattle.plan_sheet.specs.Checks.{first, formed, line_fault, line_count, mask_at, Headed, Lined, fault_of, n_of, h_of, w_of, m_of}
+use Rattle.plan_sheet.specs.Checks.{first, formed, line_fault, line_count, mask_at, Headed, Lined, fault_of}
 use Rattle.plan_sheet.specs.Law.{plan_of}
 use Rattle.plan_sheet.proofs.Fields.{groups_most}
 use Rattle.plan_sheet.proofs.Law.{length_from}

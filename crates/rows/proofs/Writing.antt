@@ -2,7 +2,7 @@
 use Rattle.std.proofs.Common.{◌≡◌, ℕ, ◌+◌, ◌-◌, ◌*◌, ◌<◌, ◌≤◌, List, ◌++◌, length, take, drop, sym, ap, ◌∙◌, inl, inr, append_assoc, arith, length-append}
 use Rattle.std.proofs.lemmas.List.{take_at, drop_at, drop-drop, take-take, length-take-le, drop-take}
 use Rattle.std.proofs.lemmas.Bool.{cases_lt}
-use Rattle.rows.specs.Bytes.{part, row_at, rows}
+use Rattle.rows.specs.Bytes.{part, row_at}
 use Rattle.rows.proofs.Rows.{part_behind}
 
 -- a part is the same in every longer front

@@ -1,5 +1,5 @@
 -- The last one or two blocks.
-use Rattle.std.proofs.Common.{◌≡◌, ℕ, ◌+◌, ◌-◌, ◌*◌, ◌/◌, ◌%◌, ◌^◌, ◌<◌, ◌≤◌, List, [], ◌∷◌, ◌++◌, length, replicate, sym, refl, ap, ◌∙◌, arith}
+use Rattle.std.proofs.Common.{◌≡◌, ℕ, ◌+◌, ◌-◌, ◌*◌, ◌%◌, ◌^◌, ◌<◌, ◌≤◌, List, [], ◌∷◌, ◌++◌, length, replicate, sym, refl, ap, ◌∙◌, arith}
 use Rattle.std.proofs.lemmas.List.{append_assoc, length-append, length-replicate, replicate-append-replicate}
 use Rattle.hash.specs.Buffers.{written}
 use Rattle.hash.specs.Chaining.{Chain, link, chained}
@@ -7,7 +7,7 @@ use Rattle.hash.proofs.Buffers.{marked, written_at}
 use Rattle.hash.proofs.Chaining.{chained_joined, chained_short, chained_full}
 use Rattle.sha256_block.specs.Fips180.{compressed}
 use Rattle.sha256.specs.Fips180.{padding, length64, bytes_of}
-use Rattle.sha256.specs.State.{State, mk, fed, closed}
+use Rattle.sha256.specs.State.{mk, fed, closed}
 use Rattle.sha256.specs.Feeding.{fed_any}
 
 closed_is : (c : Chain) (n : ℕ) → closed (mk c n) ≡ bytes_of (chained 64 compressed c (padding n)).value

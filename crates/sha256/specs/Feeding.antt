@@ -1,7 +1,7 @@
 -- Bytes fed in pieces.
 use Rattle.std.specs.Prelude.{◌≡◌, ℕ, ◌+◌, ◌%◌, ◌^◌, ◌<◌, List, [], ◌∷◌, ◌++◌, length, refl}
 use Rattle.std.proofs.Common.{sym, ap, ◌∙◌, arith}
-use Rattle.std.proofs.lemmas.List.{append-nil, length-append}
+use Rattle.std.proofs.lemmas.List.{length-append}
 use Rattle.hash.specs.Chaining.{Chain, chained}
 use Rattle.hash.proofs.Chaining.{chained_none, chained_joined}
 use Rattle.sha256_block.specs.Fips180.{compressed}

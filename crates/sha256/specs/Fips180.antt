@@ -1,7 +1,7 @@
 -- SHA-256 as FIPS 180-4 has it, over a whole message, which is a list of bytes.
 -- The standard defines it for messages of fewer than 2 ^ 64 bits. Past that bound the last 64 bits of the padding hold the
 -- length in bits modulo 2 ^ 64 here.
-use Rattle.std.specs.Prelude.{ℕ, ◌+◌, ◌-◌, ◌*◌, ◌/◌, ◌%◌, ◌^◌, List, [], ◌∷◌, ◌++◌, length, replicate, slice_index}
+use Rattle.std.specs.Prelude.{ℕ, ◌-◌, ◌*◌, ◌/◌, ◌%◌, ◌^◌, List, [], ◌∷◌, ◌++◌, length, replicate, slice_index}
 use Rattle.hash.specs.Chaining.{over}
 use Rattle.sha256_block.specs.Fips180.{compressed}
 

@@ -1,5 +1,5 @@
 -- Lane i of eight vectors.
-use Rattle.std.proofs.Common.{◌≡◌, ℕ, ◌<◌, List, [], ◌∷◌, length, get_or, sym, refl, ap, ◌∙◌, arith}
+use Rattle.std.proofs.Common.{◌≡◌, ℕ, ◌<◌, List, [], ◌∷◌, length, get_or, refl, arith}
 use Rattle.simd_lanes.specs.Lane.{lane}
 use Rattle.simd_lanes.proofs.Ops.{get_or_lane}
 use Rattle.sha256_block.specs.Fips180.{Vars, vars, add, summed}

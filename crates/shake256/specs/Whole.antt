@@ -1,9 +1,9 @@
 -- The hash of a whole message is what the state closes to.
-use Rattle.std.specs.Prelude.{◌≡◌, ℕ, zero, suc, ◌+◌, ◌-◌, ◌*◌, ◌/◌, ◌%◌, ◌<◌, cond, ◌⊎◌, List, [], ◌∷◌, ◌++◌, length, drop, replicate, ◌==◌, refl}
+use Rattle.std.specs.Prelude.{◌≡◌, ℕ, zero, suc, ◌+◌, ◌-◌, ◌*◌, ◌/◌, ◌%◌, ◌<◌, cond, List, [], ◌∷◌, ◌++◌, length, drop, replicate, ◌==◌, refl}
 use Rattle.std.proofs.Common.{sym, ap, ◌∙◌, inl, inr, arith, eq-eqb, ne_eqb}
 use Rattle.std.proofs.lemmas.List.{length-append, length-drop, length_push, length-replicate}
 use Rattle.std.proofs.lemmas.Bool.{cases_eq}
-use Rattle.hash.specs.Chaining.{Chain, link, over, stepped, chained}
+use Rattle.hash.specs.Chaining.{Chain, over, stepped, chained}
 use Rattle.hash.proofs.Chaining.{Blocks, chained_joined, chained_over}
 use Rattle.shake256.specs.Fips202.{absorbed, initial, padding, padded, squeezed, shake256}
 use Rattle.shake256.specs.State.{first, fed, closed}

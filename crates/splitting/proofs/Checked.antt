@@ -1,17 +1,14 @@
 -- The checks before a split, one by one.
-use Rattle.std.proofs.Common.{◌≡◌, ℕ, ◌*◌, Bool, true, false, cond, eqb, List, [], ◌∷◌, map, length, get_or, Some, None, Option, sym, refl, ap, ◌∙◌, arith}
+use Rattle.std.proofs.Common.{◌≡◌, ℕ, ◌*◌, true, false, eqb, List, [], ◌∷◌, map, length, Some, None, Option, refl, ◌∙◌, arith}
 use Rattle.std.specs.Option.{option_map}
 use Rattle.std.proofs.lemmas.Bool.{cond-true, cond-false}
 use Rattle.plan.specs.declared.group.Group.{Group}
 use Rattle.plan.specs.Shape.{Shape}
-use Rattle.plan.specs.Members.{members}
 use Rattle.plan.specs.Keys.{owner}
 use Rattle.plan.specs.Groups.{group_of, owning}
-use Rattle.layout.specs.Part.{part_rows}
 use Rattle.layout.specs.Table.{rows_of_group}
 use Rattle.pads.specs.Source.{Source}
-use Rattle.splitting.specs.declared.refusal.Refusal.{Refusal}
-use Rattle.splitting.specs.declared.refusal.Refusal.TheVariants.{Sources, SameChecks, Undealt, Buffer, NotHeld}
+use Rattle.splitting.specs.declared.refusal.Refusal.TheVariants.{Sources, SameChecks, Buffer, NotHeld}
 use Rattle.splitting.specs.Sources.{distinct, all_hold}
 use Rattle.splitting.specs.Split.{unless, members_of, of_owner, part_long, refusal}
 

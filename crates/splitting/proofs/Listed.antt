@@ -1,11 +1,11 @@
 -- Lists of sources and of members, looked at one after the other.
-use Rattle.std.proofs.Common.{◌≡◌, ℕ, zero, suc, ◌+◌, ◌-◌, ◌*◌, ◌<◌, ◌≤◌, Bool, true, false, cond, not, ◌&&◌, ◌||◌, List, [], ◌∷◌, ◌++◌, map, length, get_or, take, drop, replicate, Decides, sym, refl, ap, ◌∙◌, ap₂, ⊎_elim, arith, length-drop, rules}
+use Rattle.std.proofs.Common.{◌≡◌, ℕ, zero, suc, ◌+◌, ◌-◌, ◌<◌, ◌≤◌, Bool, true, false, not, ◌&&◌, ◌||◌, List, [], ◌∷◌, map, length, get_or, take, drop, replicate, Decides, sym, refl, ap, ◌∙◌, ap₂, arith, length-drop, rules}
 use lib.Bits.{xor_zero_r}
 use Rattle.std.proofs.lemmas.List.{take_all}
 use Rattle.std.specs.Str.{bytes_eq}
 use Rattle.std.proofs.lemmas.Slice.Eq.{bytes_eq-Decides}
 use Rattle.rows.specs.Bytes.{xored}
-use Rattle.rows.proofs.Added.{sums, length_xored}
+use Rattle.rows.proofs.Added.{length_xored}
 use Rattle.pads.specs.declared.label.Label.{Label}
 use Rattle.pads.specs.Source.{Source}
 use Rattle.splitting.specs.Sources.{no_source, clash, clashes_any, distinct, source_of, all_hold, padded}

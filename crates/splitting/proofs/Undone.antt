@@ -1,6 +1,6 @@
 -- Splitting, and splitting again.
-use Rattle.std.proofs.Common.{◌≡◌, ℕ, ◌+◌, ◌*◌, ◌<◌, ◌≤◌, Bool, true, false, cond, eqb, List, [], ◌∷◌, ◌++◌, length, Some, None, Ok, Err, Option, Result, sym, refl, ap, ◌∙◌, subst, ⊎_elim, arith}
-use Rattle.std.proofs.lemmas.Bool.{cases_Bool, cond-true, cond-false, eqb-true}
+use Rattle.std.proofs.Common.{◌≡◌, ℕ, ◌*◌, ◌<◌, Bool, true, false, eqb, List, [], ◌∷◌, ◌++◌, length, Some, None, Ok, Err, Option, Result, sym, refl, ap, ◌∙◌, arith}
+use Rattle.std.proofs.lemmas.Bool.{eqb-true}
 use Rattle.rows.specs.Bytes.{row_at, rows, xored}
 use Rattle.rows.proofs.Rows.{rows_same, rows_whole, row_of_all, length_rows, length_part}
 use Rattle.rows.proofs.Added.{sums}
@@ -10,7 +10,7 @@ use Rattle.layout.specs.Table.{rows_of_group}
 use Rattle.pads.specs.declared.label.Label.{Label}
 use Rattle.pads.specs.Source.{Source}
 use Rattle.splitting.specs.declared.refusal.Refusal.{Refusal}
-use Rattle.splitting.specs.declared.refusal.Refusal.TheVariants.{Sources, SameChecks, Undealt, Buffer, NotHeld}
+use Rattle.splitting.specs.declared.refusal.Refusal.TheVariants.{Sources, SameChecks, Buffer, NotHeld}
 use Rattle.splitting.specs.Labelled.{label_at}
 use Rattle.splitting.specs.Sources.{source_of, distinct, all_hold, padded}
 use Rattle.splitting.specs.Split.{unless, members_of, of_owner, part_long, refusal, split_rows, split_for, answer, split}

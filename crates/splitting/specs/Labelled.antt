@@ -1,5 +1,5 @@
 -- Which label each row of a key's part has: the prefix, a check row for each of k members, h path rows, and the components, position by position.
-use Rattle.std.specs.Prelude.{ℕ, ◌+◌, ◌-◌, ◌*◌, ◌/◌, ◌%◌, Bool, cond, ◌&&◌, Some, None, Option, ◌==◌, nat_lt}
+use Rattle.std.specs.Prelude.{ℕ, ◌+◌, ◌-◌, ◌*◌, ◌/◌, ◌%◌, cond, ◌&&◌, Some, None, Option, ◌==◌, nat_lt}
 use Rattle.lms.specs.Scheme.{components, positions}
 use Rattle.pads.specs.declared.label.Label.{Label}
 

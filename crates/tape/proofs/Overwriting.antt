@@ -1,10 +1,8 @@
 -- One line written over the first unused one.
-use Rattle.std.proofs.Common.{◌≡◌, ℕ, zero, suc, ◌+◌, ◌-◌, ◌*◌, ◌^◌, ◌<◌, ◌≤◌, Bool, true, false, cond, not, ◌&&◌, ◌||◌, eqb, leb, List, [], ◌∷◌, ◌++◌, length, get_or, take, drop, set, Some, None, Option, sym, refl, ap, ◌∙◌, inr, ⊎_elim, append_assoc, arith, take-add}
+use Rattle.std.proofs.Common.{◌≡◌, ℕ, zero, suc, ◌+◌, ◌*◌, ◌^◌, ◌<◌, ◌≤◌, Bool, true, false, cond, not, ◌||◌, eqb, leb, List, [], ◌∷◌, ◌++◌, length, take, drop, set, sym, refl, ap, ◌∙◌, inr, ⊎_elim, append_assoc, arith, take-add}
 use Rattle.std.proofs.lemmas.List.{take-append-drop, length-take-le, length-drop, drop-drop}
 use Rattle.std.proofs.lemmas.Bool.{cond-true, cond-false, eq-eqb, ne_eqb, cases_eq, or_parts, leb-false, not-false}
-use Rattle.columns.specs.Number.{spaces}
-use Rattle.ledger.specs.Spend.{Spends, spend_refusal}
-use Rattle.ledger.specs.declared.refusal.Refusal.{Refusal}
+use Rattle.ledger.specs.Spend.{Spends}
 use Rattle.tape.specs.Lines.{lines, line_of, line_key, unused, is_key, lists, blanks, FirstUnused, spent_on, flat}
 use Rattle.tape.specs.Tapes.{of_tape}
 use Rattle.tape.proofs.Taping.{Small, key_of_line, used_line, unused_is, lines_cons, flat_lines, length_line}

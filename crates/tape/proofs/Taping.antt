@@ -1,16 +1,14 @@
 -- Tapes, their lines, and what they list.
-use Rattle.std.proofs.Common.{◌≡◌, ℕ, zero, suc, ◌+◌, ◌-◌, ◌*◌, ◌/◌, ◌%◌, ◌^◌, ◌<◌, ◌≤◌, Bool, true, false, cond, not, ◌&&◌, ◌||◌, eqb, ltb, leb, List, [], ◌∷◌, ◌++◌, map, length, get_or, take, drop, set, replicate, Some, None, Option, sym, refl, ap, ◌∙◌, subst, ⊎_elim, append_assoc, arith}
+use Rattle.std.proofs.Common.{◌≡◌, ℕ, zero, suc, ◌+◌, ◌-◌, ◌*◌, ◌/◌, ◌%◌, ◌^◌, ◌<◌, ◌≤◌, Bool, true, false, cond, not, ◌&&◌, ◌||◌, eqb, ltb, leb, List, [], ◌∷◌, ◌++◌, map, length, get_or, take, replicate, Some, None, Option, sym, refl, ap, ◌∙◌, ⊎_elim, append_assoc, arith}
 use Rattle.std.specs.List.{flat_map, AllByRecursion as All}
-use Rattle.std.proofs.lemmas.List.{append-nil, length-append, take_at, get_or_at, get_or-replicate, replicate-append-replicate, nil_from_length, take_more, take_all, length-take-le, length-replicate}
-use Rattle.std.proofs.lemmas.Bool.{and_parts, and_from, cases_Bool, cond-true, cond-false, eq-eqb, ne_eqb, eqb-true, ltb-true, lt-ltb, not-true, not_from_false, true≢false, false≢true, both_ways}
-use Rattle.sizes.specs.declared.height.Height.{Height}
+use Rattle.std.proofs.lemmas.List.{append-nil, length-append, take_at, get_or_at, replicate-append-replicate, nil_from_length, take_more, take_all, length-take-le, length-replicate}
+use Rattle.std.proofs.lemmas.Bool.{and_parts, and_from, cases_Bool, cond-true, cond-false, eq-eqb, eqb-true, ltb-true, lt-ltb, not-true, not_from_false, false≢true}
 use Rattle.sizes.specs.Sizes.{levels}
 use Rattle.columns.specs.Number.{spaces, right, unpadded, number, blank}
 use Rattle.columns.proofs.Text.{padded, number_is, number_right, length_right}
 use Rattle.plan.proofs.Found.{keys_most}
-use Rattle.tape.specs.Lines.{lines, line_of, taped, line_key, unused, is_key, lists, blanks, all_unused, fresh_key, sound, FirstUnused, spent_on, flat}
-use Rattle.tape.specs.Tapes.{accepted, of_tape}
-use Rattle.tape.specs.Laws.{among, Distinct, Kept, TapesHold}
+use Rattle.tape.specs.Lines.{lines, line_of, taped, line_key, unused, is_key, lists, blanks, all_unused, fresh_key, sound, spent_on, flat}
+use Rattle.tape.specs.Laws.{among, Distinct, TapesHold}
 
 -- ---- one line
 abbrev pub Small : ℕ → Type 0

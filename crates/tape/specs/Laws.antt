@@ -1,5 +1,5 @@
 -- What holds of every tape, in words of the subject.
-use Rattle.std.specs.Prelude.{◌≡◌, ℕ, ◌+◌, ◌^◌, ◌<◌, Bool, true, false, ◌||◌, List, [], ◌∷◌, ◌++◌, Decides, ◌==◌, nat_le}
+use Rattle.std.specs.Prelude.{◌≡◌, ℕ, ◌+◌, ◌^◌, ◌<◌, Bool, true, false, ◌||◌, List, [], ◌∷◌, ◌++◌, ◌==◌, nat_le}
 use Rattle.std.specs.List.{AllByRecursion as All}
 use Rattle.sizes.specs.declared.height.Height.{Height}
 use Rattle.sizes.specs.Sizes.{levels}

@@ -1,4 +1,4 @@
-use Rattle.std.proofs.Common.{◌≡◌, ◌≤◌, length, sym, refl, ap, ◌∙◌, arith, rules}
+use Rattle.std.proofs.Common.{◌≤◌, length, sym, ◌∙◌, arith, rules}
 use Rattle.std.proofs.lemmas.List.{at_drop_all, take_rest, drop_all}
 use Rattle.columns.specs.Number.{unpadded}
 use Rattle.columns.proofs.Reading.{space_more, space_ends}

@@ -1,4 +1,4 @@
-use Rattle.std.proofs.Common.{◌≡◌, map, length, get_or, ◌∙◌, arith}
+use Rattle.std.proofs.Common.{map, length, get_or, ◌∙◌, arith}
 use Rattle.plan.specs.Members.{members}
 use Rattle.rows.proofs.Rows.{rows_whole}
 use Rattle.splitting.specs.Sources.{source_of}

@@ -1,4 +1,3 @@
-use Rattle.std.proofs.Common.{rules}
 use Rattle.hash.proofs.Hash.each.Goals as goal
 
 pub one_by_one-requires : goal.one_by_one-requires

@@ -1,4 +1,4 @@
-use Rattle.std.proofs.Common.{◌≡◌, [], get_or, take, sym, ap, ◌∙◌, arith, rules}
+use Rattle.std.proofs.Common.{◌≡◌, [], get_or, take, ap, ◌∙◌, arith, rules}
 use Rattle.hash.proofs.Fronts.{below_set}
 use Rattle.hash.proofs.Hash.one_by_one.Goals as goal
 

@@ -1,4 +1,4 @@
-use Rattle.std.proofs.Common.{◌≡◌, ◌-◌, take, replicate, sym, refl, ap, ◌∙◌, arith, rules}
+use Rattle.std.proofs.Common.{◌-◌, take, replicate, ap, ◌∙◌, arith, rules}
 use Rattle.hash.proofs.Masks.{begun, begun_none, begun_more, begun_all}
 use Rattle.hash.proofs.hmac.took_key.Goals as goal
 

@@ -1,8 +1,8 @@
-use Rattle.std.proofs.Common.{◌≡◌, sym, refl, ap, ◌∙◌, rules}
+use Rattle.std.proofs.Common.{sym, refl, ap, ◌∙◌, rules}
 use Rattle.keccak.specs.Fips202.{chi}
 use Rattle.simd_lanes.specs.Lane.{lane}
 use Rattle.simd_lanes.proofs.Ops.{same}
-use Rattle.keccak.proofs.Rows.{all, spread}
+use Rattle.keccak.proofs.Rows.{spread}
 use Rattle.keccak.proofs.pairs.chi.Goals as goal
 
 pub returns : goal.returns

@@ -1,4 +1,4 @@
-use Rattle.std.proofs.Common.{◌≡◌, [], get_or, set, sym, refl, ap, ◌∙◌, arith, rules}
+use Rattle.std.proofs.Common.{◌≡◌, [], get_or, set, sym, ap, ◌∙◌, arith, rules}
 use lib.Bits.{bit_xor}
 use Rattle.keccak.specs.Fips202.{pi, rho, chi, permuted}
 use Rattle.keccak.proofs.Steps.{rounds_none, one_round}

@@ -1,4 +1,4 @@
-use Rattle.std.proofs.Common.{[], ◌∷◌, get_or, sym, refl, ap, ◌∙◌, rules}
+use Rattle.std.proofs.Common.{[], ◌∷◌, get_or, sym, ap, ◌∙◌, rules}
 use Rattle.keccak.specs.Fips202.{pi, rho}
 use Rattle.simd_lanes.specs.Lane.{lane}
 use Rattle.keccak.proofs.Rows.{spread}

@@ -1,4 +1,4 @@
-use Rattle.std.proofs.Common.{◌≡◌, sym, refl, ap, ◌∙◌, arith, rules}
+use Rattle.std.proofs.Common.{◌≡◌, sym, ap, ◌∙◌, arith, rules}
 use Rattle.keccak.specs.Fips202.{pi, rho, chi, permuted}
 use Rattle.keccak.proofs.Steps.{rounds_none, one_round}
 use Rattle.keccak.proofs.scalar.permute.Goals as goal

@@ -1,4 +1,3 @@
-use Rattle.std.proofs.Common.{refl}
 use Rattle.keccak.specs.Fips202.{pi, rho}
 use Rattle.keccak.proofs.scalar.rho_pi.Goals as goal
 

@@ -1,4 +1,3 @@
-use Rattle.std.proofs.Common.{refl}
 use Rattle.keccak.specs.Fips202.{theta}
 use Rattle.keccak.proofs.scalar.theta.Goals as goal
 

@@ -1,7 +1,6 @@
-use Rattle.std.proofs.Common.{◌≡◌, ◌+◌, ◌*◌, ◌≤◌, length, ap, ◌∙◌, arith}
-use Rattle.sizes.specs.Sizes.{levels, bits}
+use Rattle.std.proofs.Common.{◌≡◌, ◌*◌, ap, ◌∙◌, arith}
+use Rattle.sizes.specs.Sizes.{bits}
 use Rattle.lms.specs.Scheme.{components, positions}
-use Rattle.plan.specs.Members.{members}
 use Rattle.layout.proofs.Few.{members_few, components_few, levels_few}
 use Rattle.layout.proofs.part.part_rows.Goals as goal
 

@@ -1,4 +1,4 @@
-use Rattle.std.proofs.Common.{◌≡◌, ◌+◌, ◌*◌, sym, ap, ◌∙◌, arith}
+use Rattle.std.proofs.Common.{◌+◌, ◌*◌, sym, ap, ◌∙◌, arith}
 use Rattle.plan.specs.Keys.{key_count}
 use Rattle.plan.specs.View.{view}
 use Rattle.plan.proofs.Found.{group_found}

@@ -1,5 +1,4 @@
-use Rattle.std.proofs.Common.{◌≡◌, ℕ, ◌+◌, ◌*◌, ◌≤◌, sym, ap, ◌∙◌, ap₂, arith}
-use Rattle.plan.specs.Keys.{owner}
+use Rattle.std.proofs.Common.{◌≡◌, ◌+◌, ◌*◌, sym, ap, ◌∙◌, ap₂, arith}
 use Rattle.plan.specs.View.{view}
 use Rattle.plan.proofs.Found.{plan_ranges}
 use Rattle.layout.specs.Table.{place_in, section_of, rows_of_group, table_rows}

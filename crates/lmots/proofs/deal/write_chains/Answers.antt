@@ -1,4 +1,4 @@
-use Rattle.std.proofs.Common.{◌≡◌, ℕ, ◌+◌, ◌-◌, ◌*◌, ◌^◌, ◌<◌, List, [], ◌++◌, get_or, sym, refl, ap, ◌∙◌, inl, inr, arith, below_more}
+use Rattle.std.proofs.Common.{◌≡◌, ℕ, ◌+◌, ◌-◌, ◌*◌, ◌^◌, ◌<◌, [], ◌++◌, get_or, sym, refl, ap, ◌∙◌, inl, inr, arith, below_more}
 use Rattle.rows.specs.Bytes.{u8str, u16str, u32str, row_at}
 use Rattle.sizes.specs.Sizes.{bits}
 use Rattle.lmots.specs.LmOts.{chain}

@@ -1,5 +1,4 @@
 use Rattle.std.proofs.Common.{[], get_or}
-use Rattle.lmots.specs.LmOts.{p}
 use Rattle.lmots.proofs.Cells.{Written, Kept}
 use Rattle.lmots.proofs.deal.write_lanes.Given as goal
 

@@ -1,4 +1,4 @@
-use Rattle.std.proofs.Common.{◌≡◌, ◌+◌, ◌-◌, ◌*◌, ◌/◌, ◌%◌, ◌^◌, List, [], ◌++◌, length, take, sym, refl, ap, ◌∙◌, ap₂, mod-eq_of_lt, arith, rules}
+use Rattle.std.proofs.Common.{◌≡◌, ◌+◌, ◌-◌, ◌*◌, ◌/◌, ◌%◌, ◌^◌, [], ◌++◌, length, take, sym, refl, ap, ◌∙◌, ap₂, mod-eq_of_lt, arith, rules}
 use Rattle.std.proofs.lemmas.List.{take_all}
 use Rattle.rows.specs.Bytes.{u16str}
 use Rattle.rows.proofs.Writing.{grow}

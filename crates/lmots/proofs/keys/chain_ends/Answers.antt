@@ -1,4 +1,4 @@
-use Rattle.std.proofs.Common.{◌≡◌, ℕ, ◌+◌, ◌%◌, ◌^◌, ◌<◌, List, [], get_or, ap, ◌∙◌, arith, rules}
+use Rattle.std.proofs.Common.{◌≡◌, ℕ, ◌+◌, ◌%◌, ◌^◌, ◌<◌, [], get_or, ap, ◌∙◌, arith, rules}
 use Rattle.lmots.specs.LmOts.{X}
 use Rattle.lmots.proofs.Eight.{fill_more}
 use Rattle.lmots.proofs.keys.chain_ends.Goals as goal

@@ -1,4 +1,4 @@
-use Rattle.std.proofs.Common.{[], ◌++◌, get_or, ap, ◌∙◌}
+use Rattle.std.proofs.Common.{[], ◌++◌, ap, ◌∙◌}
 use Rattle.std.proofs.lemmas.List.{get_or-replicate}
 use Rattle.rows.specs.Bytes.{u8str, u16str, u32str}
 use Rattle.lmots.specs.LmOts.{start}

@@ -1,6 +1,5 @@
 use Rattle.std.proofs.Common.{◌≡◌, ℕ, ◌<◌, [], length, get_or, take}
 use Rattle.pads.specs.Labels.{label_bytes}
-use Rattle.pads.specs.Source.{nothing}
 use Rattle.pads.specs.declared.label.Label.{Label}
 use Rattle.pads.proofs.hmac_pads.texts_of.Given as goal
 

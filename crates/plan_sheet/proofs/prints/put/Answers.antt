@@ -2,7 +2,7 @@ use Rattle.std.proofs.Common.{◌≡◌, ◌-◌, ◌<◌, ◌≤◌, [], ◌∷
 use Rattle.std.proofs.lemmas.Bool.{cases_lt}
 use lib.Utf8.{encode}
 use Rattle.std.proofs.lemmas.Slice.{pushed}
-use Rattle.columns.specs.Number.{spaces, right}
+use Rattle.columns.specs.Number.{spaces}
 use Rattle.plan_sheet.proofs.Pushes.{made_pushed, space_pushed}
 use Rattle.plan_sheet.proofs.prints.put.Goals as goal
 

@@ -1,4 +1,4 @@
-use Rattle.std.proofs.Common.{◌≡◌, ◌+◌, ◌-◌, [], ◌∷◌, length, string_bytes, refl}
+use Rattle.std.proofs.Common.{◌+◌, ◌-◌, [], ◌∷◌, length, string_bytes}
 use lib.Utf8.{encode}
 use Rattle.plan.specs.Members.{members}
 use Rattle.columns.specs.Number.{right}

@@ -1,4 +1,4 @@
-use Rattle.std.proofs.Common.{◌≡◌, ◌<◌, ◌≤◌, [], ◌∷◌, ◌++◌, length, take, string_bytes, sym, refl, ap, ◌∙◌, arith, rules}
+use Rattle.std.proofs.Common.{◌≡◌, ◌++◌, length, take, string_bytes, ap, ◌∙◌, arith}
 use lib.Utf8.{encode}
 use Rattle.std.specs.List.{range_with_len, flat_map}
 use Rattle.plan.specs.Keys.{undealt}

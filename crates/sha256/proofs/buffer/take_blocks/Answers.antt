@@ -1,4 +1,4 @@
-use Rattle.std.proofs.Common.{◌≡◌, ◌<◌, ◌≤◌, [], length, sym, ap, ◌∙◌, arith, length-drop}
+use Rattle.std.proofs.Common.{◌<◌, ◌≤◌, [], length, sym, ◌∙◌, arith, length-drop}
 use Rattle.hash.proofs.Chaining.{chained_block, chained_short}
 use Rattle.sha256_block.specs.Fips180.{compressed}
 use Rattle.sha256.proofs.buffer.take_blocks.Goals as goal

@@ -1,4 +1,4 @@
-use Rattle.std.proofs.Common.{◌≡◌, [], get_or, sym, refl}
+use Rattle.std.proofs.Common.{[], get_or, sym, refl}
 use Rattle.std.proofs.lemmas.List.FromFn.{fill_by_all}
 use Rattle.sha256.proofs.eight.rows.Goals as goal
 

@@ -1,8 +1,8 @@
-use Rattle.std.proofs.Common.{◌≡◌, ◌+◌, ◌<◌, [], length, get_or, take, sym, refl, ap, ◌∙◌, arith, rules}
+use Rattle.std.proofs.Common.{◌≡◌, ◌+◌, ◌<◌, [], length, get_or, take, sym, ap, ◌∙◌, arith, rules}
 use Rattle.std.proofs.lemmas.List.{take_all}
 use Rattle.simd_lanes.specs.Lane.{lane}
 use Rattle.simd_lanes.proofs.Ops.{get_or_lane, lane_set, length_lane}
-use Rattle.sha256_block.specs.Fips180.{schedule, turn, turns, constants, vars, summed, compressed}
+use Rattle.sha256_block.specs.Fips180.{schedule, turn, constants, vars, summed, compressed}
 use Rattle.sha256_block.proofs.Steps.{widen, turns_none, turns_early, turns_late}
 use Rattle.sha256_block.proofs.lanes.compress_eight.Goals as goal
 

@@ -1,4 +1,4 @@
-use Rattle.std.proofs.Common.{◌≡◌, ◌-◌, ◌<◌, length, arith, rules}
+use Rattle.std.proofs.Common.{◌≡◌, ◌-◌, length, arith, rules}
 use Rattle.simd_lanes.proofs.Ops.{get_or_lane}
 use Rattle.sha256_block.proofs.lanes.next_word.Goals as goal
 

@@ -1,4 +1,4 @@
-use Rattle.std.proofs.Common.{◌≡◌, length, sym, ap, ◌∙◌, rules}
+use Rattle.std.proofs.Common.{sym, ap, ◌∙◌}
 use Rattle.simd_lanes.specs.Lane.{lane}
 use Rattle.sha256_block.specs.Fips180.{summed}
 use Rattle.sha256_block.proofs.Eight.{lane_eight, vars_lane, summed_lane}

@@ -1,6 +1,6 @@
-use Rattle.std.proofs.Common.{◌≡◌, ◌+◌, get_or, take, sym, refl, ap, ◌∙◌, arith, rules}
+use Rattle.std.proofs.Common.{◌≡◌, get_or, sym, ap, ◌∙◌, arith, rules}
 use Rattle.std.proofs.lemmas.List.{take_all}
-use Rattle.sha256_block.specs.Fips180.{schedule, turn, turns, vars, summed, compressed}
+use Rattle.sha256_block.specs.Fips180.{schedule, turn, vars, summed, compressed}
 use Rattle.sha256_block.proofs.Steps.{widen, turns_none, turns_early, turns_late}
 use Rattle.sha256_block.proofs.scalar.compress.Goals as goal
 

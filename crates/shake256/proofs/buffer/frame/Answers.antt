@@ -1,4 +1,3 @@
-use Rattle.std.proofs.Common.{◌≡◌}
 use Rattle.hash.proofs.Buffers.{mark}
 use Rattle.shake256.proofs.Ending.{framed}
 use Rattle.shake256.proofs.buffer.frame.Goals as goal

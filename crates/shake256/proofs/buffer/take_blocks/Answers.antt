@@ -1,4 +1,4 @@
-use Rattle.std.proofs.Common.{◌≡◌, ◌<◌, ◌≤◌, [], length, sym, ap, ◌∙◌, arith}
+use Rattle.std.proofs.Common.{◌<◌, ◌≤◌, [], length, sym, ◌∙◌, arith}
 use Rattle.hash.proofs.Chaining.{chained_block, chained_short}
 use Rattle.shake256.specs.Fips202.{absorbed}
 use Rattle.shake256.proofs.buffer.take_blocks.Goals as goal

@@ -1,4 +1,4 @@
-use Rattle.std.proofs.Common.{◌≡◌, ℕ, ◌<◌, [], ◌∷◌, length, get_or, take, sym, refl, ap, ◌∙◌, lit<}
+use Rattle.std.proofs.Common.{◌≡◌, ℕ, ◌<◌, [], ◌∷◌, get_or, take, ap, ◌∙◌, lit<}
 use Rattle.hash.specs.Buffers.{written}
 use Rattle.simd_lanes.proofs.Ops.{each_of_8}
 use Rattle.shake256.specs.Fips202.{absorbed, squeezed}

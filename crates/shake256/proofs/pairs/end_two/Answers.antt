@@ -1,4 +1,4 @@
-use Rattle.std.proofs.Common.{◌≡◌, sym, refl, ap, ◌∙◌, lit<}
+use Rattle.std.proofs.Common.{ap, ◌∙◌, lit<}
 use Rattle.keccak.specs.Fips202.{permuted}
 use Rattle.shake256.specs.Fips202.{absorbed, squeezed}
 use Rattle.shake256.proofs.pairs.end_two.Goals as goal

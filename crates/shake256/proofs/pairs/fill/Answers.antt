@@ -1,4 +1,4 @@
-use Rattle.std.proofs.Common.{◌∙◌, rules}
+use Rattle.std.proofs.Common.{rules}
 use native.Mathlib.Nat.{sub-zero}
 use Rattle.shake256.proofs.pairs.fill.Goals as goal
 

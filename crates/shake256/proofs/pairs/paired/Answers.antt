@@ -1,4 +1,4 @@
-use Rattle.std.proofs.Common.{◌≡◌, [], get_or, arith, rules}
+use Rattle.std.proofs.Common.{◌≡◌, get_or, arith, rules}
 use Rattle.hash.proofs.Fronts.{below_set}
 use Rattle.shake256.proofs.Lanes.{lane_is}
 use Rattle.shake256.proofs.pairs.paired.Goals as goal

@@ -1,4 +1,4 @@
-use Rattle.std.proofs.Common.{◌≡◌, ◌<◌, ◌≢◌, length, get_or, sym, refl, ap, ◌∙◌, arith, get_or-set_other, get_or-set_same, rules, below_more}
+use Rattle.std.proofs.Common.{◌<◌, ◌≢◌, length, get_or, refl, ap, ◌∙◌, arith, get_or-set_other, get_or-set_same, rules, below_more}
 use lib.Bits.{bit_xor}
 use Rattle.shake256.proofs.Adding.{all_added}
 use Rattle.shake256.proofs.sponge.add_block.Goals as goal

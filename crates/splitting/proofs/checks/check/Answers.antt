@@ -1,8 +1,7 @@
-use Rattle.std.proofs.Common.{◌≡◌, ℕ, ◌*◌, Bool, true, false, cond, eqb, map, length, Some, None, sym, refl, ap, ◌∙◌, arith}
+use Rattle.std.proofs.Common.{◌≡◌, true, false, map, length, Some, None, sym, ap, ◌∙◌, arith}
 use Rattle.std.proofs.lemmas.Bool.{eq-eqb, ne_eqb, cond-true, cond-false}
 use Rattle.sizes.specs.Sizes.{levels, bits}
 use Rattle.plan.specs.declared.group.Group.{Group}
-use Rattle.plan.specs.Keys.{owner}
 use Rattle.plan.specs.Members.{members}
 use Rattle.plan.specs.View.{view}
 use Rattle.layout.specs.Part.{part_rows}

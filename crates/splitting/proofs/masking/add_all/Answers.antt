@@ -1,4 +1,4 @@
-use Rattle.std.proofs.Common.{◌≡◌, ℕ, ◌+◌, ◌<◌, ◌≤◌, map, length, get_or, take, sym, ap, ◌∙◌, ap₂, arith}
+use Rattle.std.proofs.Common.{◌≡◌, map, length, sym, ap, ◌∙◌, ap₂, arith}
 use Rattle.rows.specs.Bytes.{row_at, xored}
 use Rattle.sizes.specs.Sizes.{levels, bits}
 use Rattle.std.proofs.lemmas.List.{take_all}

@@ -1,4 +1,4 @@
-use Rattle.std.proofs.Common.{◌≡◌, ℕ, ◌+◌, ◌*◌, ◌<◌, ◌≤◌, map, length, take}
+use Rattle.std.proofs.Common.{◌≡◌, ℕ, ◌+◌, ◌*◌, ◌≤◌, map, length, take}
 use Rattle.rows.specs.Bytes.{row_at}
 use Rattle.sizes.specs.Sizes.{levels, bits}
 use Rattle.plan.specs.Members.{members}

@@ -1,4 +1,4 @@
-use Rattle.std.proofs.Common.{◌≡◌, ℕ, ◌+◌, ◌-◌, ◌*◌, ◌<◌, ◌≤◌, [], length, get_or, sym, ap, ◌∙◌, subst, ap₂, inl, inr, ⊎_elim, arith}
+use Rattle.std.proofs.Common.{◌≡◌, ◌+◌, ◌-◌, ◌*◌, ◌<◌, ◌≤◌, length, sym, ap, ◌∙◌, ap₂, inl, inr, ⊎_elim, arith}
 use Rattle.rows.specs.Bytes.{row_at, xored}
 use Rattle.sizes.specs.Sizes.{levels, bits}
 use Rattle.std.proofs.lemmas.Bool.{cases_lt}

@@ -1,4 +1,4 @@
-use Rattle.std.proofs.Common.{◌≡◌, ℕ, ◌-◌, ◌<◌, ◌≤◌, map, length, get_or, sym, ap, ◌∙◌, arith}
+use Rattle.std.proofs.Common.{get_or, sym, ap, ◌∙◌, arith}
 use Rattle.rows.specs.Bytes.{row_at, xored}
 use Rattle.sizes.specs.Sizes.{levels, bits}
 use Rattle.splitting.specs.Labelled.{label_at}

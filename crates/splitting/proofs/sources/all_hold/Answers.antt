@@ -1,4 +1,4 @@
-use Rattle.std.proofs.Common.{◌≡◌, ◌+◌, ◌<◌, Bool, true, false, ◌&&◌, map, length, get_or, drop, sym, ap, ◌∙◌, arith}
+use Rattle.std.proofs.Common.{◌≡◌, ◌+◌, true, false, ◌&&◌, map, get_or, drop, sym, ap, ◌∙◌, arith}
 use Rattle.plan.specs.Members.{members}
 use Rattle.splitting.specs.Sources.{source_of, all_hold}
 use Rattle.splitting.proofs.Listed.{hold_at, hold_end}

@@ -1,4 +1,4 @@
-use Rattle.std.proofs.Common.{◌≡◌, ◌+◌, ◌<◌, Bool, true, false, ◌||◌, map, length, drop, sym, ap, ◌∙◌, arith}
+use Rattle.std.proofs.Common.{◌≡◌, ◌+◌, true, false, ◌||◌, map, drop, sym, ap, ◌∙◌, arith}
 use Rattle.splitting.specs.Sources.{clash, clashes_any}
 use Rattle.splitting.proofs.Listed.{any_at, any_end}
 use Rattle.splitting.proofs.sources.clashes_any.Goals as goal

@@ -1,4 +1,4 @@
-use Rattle.std.proofs.Common.{◌≡◌, ◌+◌, ◌<◌, Bool, true, false, not, ◌&&◌, map, length, drop, sym, ap, ◌∙◌, arith, rules}
+use Rattle.std.proofs.Common.{◌≡◌, ◌+◌, true, false, not, ◌&&◌, map, drop, sym, ap, ◌∙◌, arith}
 use Rattle.splitting.specs.Sources.{clashes_any, distinct}
 use Rattle.splitting.proofs.Listed.{tail, distinct_at, distinct_end}
 use Rattle.splitting.proofs.sources.distinct.Goals as goal

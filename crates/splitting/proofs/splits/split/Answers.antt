@@ -1,6 +1,6 @@
-use Rattle.std.proofs.Common.{◌≡◌, ℕ, ◌+◌, ◌*◌, ◌<◌, ◌≤◌, List, map, length, get_or, Some, Ok, sym, refl, ap, ◌∙◌, subst, arith}
+use Rattle.std.proofs.Common.{◌≡◌, ℕ, ◌*◌, ◌<◌, List, map, length, get_or, Some, Ok, sym, refl, ap, ◌∙◌, arith}
 use Rattle.std.proofs.lemmas.Result.{err_from_is_err_and}
-use Rattle.rows.specs.Bytes.{row_at, rows}
+use Rattle.rows.specs.Bytes.{row_at}
 use Rattle.rows.proofs.Rows.{rows_whole}
 use Rattle.sizes.specs.Sizes.{levels, bits}
 use Rattle.plan.specs.declared.group.Group.{Group}
@@ -10,7 +10,7 @@ use Rattle.layout.specs.Table.{rows_of_group}
 use Rattle.layout.proofs.Few.{members_few, components_few, levels_few}
 use Rattle.splitting.specs.Labelled.{label_at}
 use Rattle.splitting.specs.Sources.{padded}
-use Rattle.splitting.specs.Split.{members_of, split, split_rows}
+use Rattle.splitting.specs.Split.{members_of}
 use Rattle.splitting.proofs.Checked.{one_owns}
 use Rattle.splitting.proofs.Undone.{all_passed, refused, accepted, splitting}
 use Rattle.splitting.proofs.splits.split.Goals as goal

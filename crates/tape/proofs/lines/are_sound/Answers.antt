@@ -1,4 +1,4 @@
-use Rattle.std.proofs.Common.{◌≡◌, ◌<◌, ◌≤◌, cond, ◌&&◌, length, sym, ap, ◌∙◌, rules}
+use Rattle.std.proofs.Common.{◌<◌, ◌≤◌, cond, ◌&&◌, length, sym, ap, ◌∙◌, rules}
 use Rattle.tape.specs.Lines.{lines, line_key, all_unused, fresh_key, sound}
 use Rattle.tape.proofs.Cutting.{six, after, sound_step, rest_of}
 use Rattle.tape.proofs.lines.are_sound.Goals as goal

@@ -1,4 +1,4 @@
-use Rattle.std.proofs.Common.{◌≡◌, ◌<◌, ◌≤◌, ◌&&◌, length, sym, ap, ◌∙◌, rules}
+use Rattle.std.proofs.Common.{◌<◌, ◌≤◌, ◌&&◌, length, sym, ap, ◌∙◌, rules}
 use Rattle.tape.specs.Lines.{lines, all_unused}
 use Rattle.tape.proofs.Cutting.{after, all_step, rest_of}
 use Rattle.tape.proofs.lines.are_unused.Goals as goal

@@ -1,6 +1,6 @@
-use Rattle.std.proofs.Common.{◌≡◌, ℕ, suc, ◌+◌, ◌*◌, ◌<◌, ◌≤◌, true, false, cond, length, sym, refl, ap, ◌∙◌, subst, zero-add, arith, rules}
+use Rattle.std.proofs.Common.{◌≡◌, suc, ◌+◌, ◌<◌, ◌≤◌, length, sym, ◌∙◌, subst, arith, rules}
 use Rattle.tape.specs.Lines.{lines, FirstUnused}
-use Rattle.tape.proofs.Cutting.{six, after, lines_step, blanks_step, length_after, one_if, rest_of}
+use Rattle.tape.proofs.Cutting.{lines_step, blanks_step, length_after, one_if, rest_of}
 use Rattle.tape.proofs.lines.first_unused.Goals as goal
 
 pub returns-then-is_unused : goal.returns-then-is_unused

@@ -1,4 +1,4 @@
-use Rattle.std.proofs.Common.{◌≡◌, ℕ, ◌+◌, ◌*◌, ◌≤◌, length}
+use Rattle.std.proofs.Common.{◌≡◌, ℕ, ◌+◌, ◌*◌, length}
 use Rattle.tape.specs.Lines.{lines, blanks, FirstUnused}
 use Rattle.tape.proofs.lines.first_unused.Given as goal
 

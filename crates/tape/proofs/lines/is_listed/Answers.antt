@@ -1,5 +1,5 @@
-use Rattle.std.proofs.Common.{◌≡◌, ◌<◌, ◌≤◌, ◌||◌, length, sym, ap, ◌∙◌, rules}
-use Rattle.tape.specs.Lines.{lines, lists, is_key}
+use Rattle.std.proofs.Common.{◌<◌, ◌≤◌, ◌||◌, length, sym, ap, ◌∙◌, rules}
+use Rattle.tape.specs.Lines.{lines, lists}
 use Rattle.tape.proofs.Cutting.{after, lists_step, rest_of}
 use Rattle.tape.proofs.lines.is_listed.Goals as goal
 

@@ -1,4 +1,4 @@
-use Rattle.std.proofs.Common.{◌≡◌, ◌+◌, ◌%◌, [], ◌∷◌, sym, ◌∙◌}
+use Rattle.std.proofs.Common.{◌+◌, ◌%◌, [], ◌∷◌, sym, ◌∙◌}
 use Rattle.tape.proofs.Writing.{line_is}
 use Rattle.tape.proofs.lines.line_of.Goals as goal
 

@@ -1,4 +1,4 @@
-use Rattle.std.proofs.Common.{◌≡◌, ◌<◌, ◌≤◌, cond, length, sym, ap, arith, rules}
+use Rattle.std.proofs.Common.{◌<◌, ◌≤◌, length, arith, rules}
 use Rattle.tape.proofs.Cutting.{blanks_step, length_after, one_if, rest_of}
 use Rattle.tape.proofs.lines.unused_lines.Goals as goal
 

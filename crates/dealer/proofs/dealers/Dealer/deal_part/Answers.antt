@@ -1,4 +1,4 @@
-use Rattle.std.proofs.Common.{◌≡◌, ℕ, ◌+◌, ◌-◌, ◌*◌, ◌<◌, ◌≤◌, eqb, List, ◌++◌, map, length, take, drop, Some, None, Ok, Option, sym, refl, ap, ◌∙◌, subst, arith, rules}
+use Rattle.std.proofs.Common.{◌≡◌, ◌-◌, ◌≤◌, map, length, None, sym, ap, ◌∙◌, arith, rules}
 use borrow.Rule.Slice.PartMut.{put_mid}
 use Rattle.std.specs.Option.{option_map}
 use Rattle.std.proofs.lemmas.Result.{err_from_is_err_and}
@@ -6,14 +6,10 @@ use Rattle.rows.specs.Bytes.{part}
 use Rattle.rows.proofs.Rows.{length_part}
 use Rattle.plan.specs.Keys.{owner}
 use Rattle.plan.specs.View.{view}
-use Rattle.layout.specs.Table.{table_rows, part_start, part_size}
-use Rattle.lms.specs.Grown.{held_path}
-use Rattle.splitting.specs.declared.refusal.Refusal.{Refusal}
-use Rattle.splitting.specs.Split.{refusal, refusal_if, split, split_for}
+use Rattle.layout.specs.Table.{part_size}
+use Rattle.splitting.specs.Split.{refusal, split_for}
 use Rattle.splitting.proofs.Undone.{all_passed, answered}
 use Rattle.dealer.specs.Refusals.{handed_on}
-use Rattle.dealer.specs.Sheet.{sheet_over, key_sheet, part_over}
-use Rattle.dealer.specs.Dealt.{i_of, seed_of}
 use Rattle.dealer.specs.Tabled.{tabled}
 use Rattle.plan.proofs.Found.{plan_ranges}
 use Rattle.layout.proofs.Lying.{places}

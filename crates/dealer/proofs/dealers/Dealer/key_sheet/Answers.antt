@@ -1,6 +1,5 @@
-use Rattle.std.proofs.Common.{◌≡◌, ℕ, ◌+◌, ◌*◌, ◌^◌, ◌<◌, ◌≤◌, List, ◌++◌, map, length, Some, vec_items, sym, refl, ap, ◌∙◌, arith}
+use Rattle.std.proofs.Common.{◌≡◌, ℕ, ◌*◌, ◌^◌, ◌<◌, List, ◌++◌, map, length, Some, vec_items, sym, ap, ◌∙◌, arith}
 use Rattle.std.specs.Option.{option_map}
-use Rattle.sizes.specs.Sizes.{levels, bits}
 use Rattle.plan.specs.declared.group.Group.{Group}
 use Rattle.plan.specs.Members.{members}
 use Rattle.plan.specs.View.{view}
@@ -12,7 +11,6 @@ use Rattle.lms.specs.Grown.{held_path, tall, wide}
 use Rattle.lms.specs.Scheme.{prefix, path_row, all_components}
 use Rattle.rows.specs.Bytes.{rows}
 use Rattle.rows.proofs.Rows.{rows_same}
-use Rattle.splitting.specs.Split.{members_of}
 use Rattle.splitting.proofs.Checked.{one_owns}
 use Rattle.splitting.proofs.Undone.{all_passed}
 use Rattle.dealer.specs.Refusals.{handed_on}

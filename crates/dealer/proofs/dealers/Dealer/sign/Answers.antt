@@ -1,4 +1,4 @@
-use Rattle.std.proofs.Common.{◌≡◌, true, [], length, sym, refl, ap, ◌∙◌, subst}
+use Rattle.std.proofs.Common.{[], length, sym, ◌∙◌}
 use Rattle.plan.specs.View.{view}
 use Rattle.lms.specs.Grown.{tall, wide}
 use Rattle.lms.specs.Scheme.{root, signature, verdict}

@@ -1,4 +1,4 @@
-use Rattle.std.proofs.Common.{◌≡◌, true, vec_items, ap, ◌∙◌}
+use Rattle.std.proofs.Common.{◌≡◌, vec_items, ap, ◌∙◌}
 use Rattle.rows.specs.Bytes.{rows}
 use Rattle.rows.proofs.Rows.{rows_same}
 use Rattle.lmots.specs.LmOts.{X, digest, digit, p, prefix}

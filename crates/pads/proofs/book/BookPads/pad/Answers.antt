@@ -1,7 +1,7 @@
-use Rattle.std.proofs.Common.{◌≡◌, ℕ, ◌+◌, ◌-◌, ◌*◌, ◌/◌, ◌^◌, ◌<◌, ◌≤◌, true, length, sym, ap, ◌∙◌, subst, arith, rules}
+use Rattle.std.proofs.Common.{◌≡◌, ◌+◌, ◌-◌, ◌*◌, ◌^◌, ◌<◌, ◌≤◌, true, length, sym, ap, ◌∙◌, subst, arith, rules}
 use Rattle.rows.specs.Bytes.{part}
 use Rattle.sizes.specs.Sizes.{levels, bits}
-use Rattle.pads.specs.Books.{rows_of_key, row_of, book_holds, book_pad}
+use Rattle.pads.specs.Books.{rows_of_key, book_holds}
 use Rattle.pads.proofs.Places.{place_fits, row_below, place_small, index_inside, held_row}
 use Rattle.pads.proofs.book.BookPads.pad.Goals as goal
 

@@ -1,4 +1,4 @@
-use Rattle.std.proofs.Common.{◌≡◌, ◌*◌, get_or, take, sym}
+use Rattle.std.proofs.Common.{◌*◌, sym}
 use Rattle.std.proofs.lemmas.List.{get_or-take}
 use Rattle.plan.proofs.plans.Plan.described.Goals as goal
 

@@ -1,4 +1,4 @@
-use Rattle.std.proofs.Common.{◌≡◌, ◌-◌, ◌*◌, ◌%◌, ◌^◌, ◌<◌, ◌≤◌, unwrap_or, ap, arith, rules}
+use Rattle.std.proofs.Common.{◌≡◌, ◌-◌, ◌*◌, ◌%◌, ◌^◌, unwrap_or, arith, rules}
 use Rattle.std.proofs.lemmas.Nat.{one_shl}
 use Rattle.plan_sheet.proofs.Groups.{add_bit, add_bit_under, bit_some, order_some}
 use Rattle.plan_sheet.proofs.tally.Tally.with.Goals as goal

@@ -1,4 +1,4 @@
-use Rattle.std.proofs.Common.{◌≡◌, ◌+◌, ◌-◌, ◌%◌, ◌^◌, ◌<◌, ◌≤◌, length, take, sym, refl, ap, ◌∙◌, arith, length-drop, rules, ltb-false, ltb-true}
+use Rattle.std.proofs.Common.{◌≡◌, ◌+◌, ◌-◌, ◌%◌, ◌^◌, ◌<◌, ◌≤◌, length, take, sym, ap, ◌∙◌, arith, length-drop, rules, ltb-false, ltb-true}
 use Rattle.hash.specs.Chaining.{link}
 use Rattle.hash.proofs.Buffers.{short, long}
 use Rattle.sha256_block.specs.Fips180.{compressed}

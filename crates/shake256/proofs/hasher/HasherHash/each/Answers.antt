@@ -1,9 +1,9 @@
-use Rattle.std.proofs.Common.{◌≡◌, ◌+◌, ◌-◌, ◌%◌, ◌<◌, ◌≤◌, [], ◌++◌, length, get_or, take, sym, refl, ap, ◌∙◌, arith, rules, ltb-true}
+use Rattle.std.proofs.Common.{◌≡◌, ◌+◌, ◌-◌, ◌%◌, ◌<◌, ◌≤◌, [], length, get_or, take, sym, ap, ◌∙◌, arith, rules, ltb-true}
 use native.Mathlib.Nat.{sub-zero}
 use Rattle.std.proofs.lemmas.List.{length-take-le}
 use Rattle.hash.proofs.Fronts.{front_of}
 use Rattle.hash.specs.Chaining.{link}
-use Rattle.shake256.specs.Fips202.{absorbed, padding, squeezed}
+use Rattle.shake256.specs.Fips202.{absorbed, squeezed}
 use Rattle.shake256.specs.State.{fed, closed}
 use Rattle.shake256.proofs.Ending.{one_block_more, framed_more}
 use Rattle.shake256.proofs.hasher.HasherHash.each.Goals as goal

@@ -1,4 +1,4 @@
-use Rattle.std.proofs.Common.{◌≡◌, ◌+◌, ◌-◌, ◌%◌, ◌<◌, ◌≤◌, length, sym, refl, ap, ◌∙◌, arith, rules, ltb-false, ltb-true}
+use Rattle.std.proofs.Common.{◌+◌, ◌-◌, ◌%◌, ◌<◌, ◌≤◌, length, sym, ◌∙◌, arith, rules, ltb-false, ltb-true}
 use Rattle.hash.proofs.Buffers.{short, long}
 use Rattle.shake256.specs.Fips202.{absorbed}
 use Rattle.shake256.proofs.hasher.HasherHash.feed.Goals as goal
