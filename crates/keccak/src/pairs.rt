@@ -1,7 +1,7 @@
 // Two states at once, one to a lane of the vectors.
 ghost use Rattle.std.specs.Prelude.{◌≡◌, ℕ, ◌+◌, ◌-◌, ◌*◌, ◌/◌, ◌%◌, ◌^◌, ◌<◌, length, bit_and, bit_or, bit_xor, slice_index};
 ghost use Rattle.simd_lanes.specs.Lane.{lane};
-ghost use Rattle.keccak.specs.Fips202.{theta as thetaOf, rho as rho_of, pi as piOf, chi as chiOf, complement, permuted};
+ghost use Rattle.keccak.specs.Fips202.{theta as theta_of, rho as rho_of, pi as pi_of, chi as chi_of, complement, permuted};
 
 use crate::constants::round_constant;
 use std::simd::prelude::*;
@@ -45,7 +45,7 @@ fn splat(x: u64) -> u64x2
 }
 
 fn theta(a: &[u64x2; 25]) -> [u64x2; 25]
-    ensures { (i : ℕ) → i < 2 → lane i result ≡ thetaOf (lane i a.now) }
+    ensures { (i : ℕ) → i < 2 → lane i result ≡ theta_of (lane i a.now) }
 {
     let [
         a0,
@@ -114,7 +114,7 @@ fn theta(a: &[u64x2; 25]) -> [u64x2; 25]
 }
 
 fn rho_pi(a: &[u64x2; 25]) -> [u64x2; 25]
-    ensures { (i : ℕ) → i < 2 → lane i result ≡ piOf (rho_of (lane i a.now)) }
+    ensures { (i : ℕ) → i < 2 → lane i result ≡ pi_of (rho_of (lane i a.now)) }
 {
     let [
         a0,
@@ -173,7 +173,7 @@ fn rho_pi(a: &[u64x2; 25]) -> [u64x2; 25]
 }
 
 fn chi(a: &[u64x2; 25]) -> [u64x2; 25]
-    ensures { (i : ℕ) → i < 2 → lane i result ≡ chiOf (lane i a.now) }
+    ensures { (i : ℕ) → i < 2 → lane i result ≡ chi_of (lane i a.now) }
 {
     let [
         a0,

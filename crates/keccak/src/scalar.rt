@@ -1,6 +1,6 @@
 // One state: 25 lanes of 64 bits, lane (x, y) at 5 y + x.
 ghost use Rattle.std.specs.Prelude.{◌≡◌, bit_xor};
-ghost use Rattle.keccak.specs.Fips202.{theta as thetaOf, rho as rho_of, pi as piOf, chi as chiOf, permuted};
+ghost use Rattle.keccak.specs.Fips202.{theta as theta_of, rho as rho_of, pi as pi_of, chi as chi_of, permuted};
 
 use crate::constants::round_constant;
 
@@ -11,7 +11,7 @@ fn column(a: u64, b: u64, c: u64, d: u64, e: u64) -> u64
 }
 
 fn theta(a: &[u64; 25]) -> [u64; 25]
-    ensures { result ≡ thetaOf a.now }
+    ensures { result ≡ theta_of a.now }
 {
     let [
         a0,
@@ -80,7 +80,7 @@ fn theta(a: &[u64; 25]) -> [u64; 25]
 }
 
 fn rho_pi(a: &[u64; 25]) -> [u64; 25]
-    ensures { result ≡ piOf (rho_of a.now) }
+    ensures { result ≡ pi_of (rho_of a.now) }
 {
     let [
         a0,
@@ -139,7 +139,7 @@ fn rho_pi(a: &[u64; 25]) -> [u64; 25]
 }
 
 fn chi(a: &[u64; 25]) -> [u64; 25]
-    ensures { result ≡ chiOf a.now }
+    ensures { result ≡ chi_of a.now }
 {
     let [
         a0,

@@ -1,6 +1,6 @@
 -- What holds of every tape, in words of the subject.
 use Rattle.std.specs.Prelude.{◌≡◌, ℕ, ◌+◌, ◌^◌, ◌<◌, Bool, true, false, ◌||◌, List, [], ◌∷◌, ◌++◌, ◌==◌, nat_le}
-use Rattle.std.specs.List.{AllByRecursion as All}
+use Rattle.std.specs.List.{AllByRecursion}
 use Rattle.sizes.specs.declared.height.Height.{Height}
 use Rattle.sizes.specs.Sizes.{levels}
 use Rattle.tape.specs.Lines.{lines, taped, spent_on, flat}
@@ -21,14 +21,14 @@ pub record Kept (h : Height) (bytes : List ℕ) : Type 0 where
   pub keys : List ℕ
   pub room : ℕ
   pub written : bytes ≡ taped keys room
-  pub below : All (λ k. k < 2 ^ levels h) keys
+  pub below : AllByRecursion (λ k. k < 2 ^ levels h) keys
   pub distinct : Distinct keys
 
 pub record TapesHold : Type 0 where
   -- the test accepts just such bytes
   pub exact : (h : Height) (bytes : List ℕ) → (accepted (levels h) bytes ≡ true → Kept h bytes) × (Kept h bytes → accepted (levels h) bytes ≡ true)
   -- just the keys written on a tape are spent, and its unused lines are its room
-  pub says : (h : Height) (keys : List ℕ) (room k : ℕ) → All (λ k. k < 2 ^ levels h) keys → (of_tape true (levels h) (taped keys room)).spent k ≡ (nat_le (2 ^ levels h) k || among keys k)
-  pub roomy : (h : Height) (keys : List ℕ) (room : ℕ) → All (λ k. k < 2 ^ levels h) keys → (of_tape true (levels h) (taped keys room)).room ≡ room
+  pub says : (h : Height) (keys : List ℕ) (room k : ℕ) → AllByRecursion (λ k. k < 2 ^ levels h) keys → (of_tape true (levels h) (taped keys room)).spent k ≡ (nat_le (2 ^ levels h) k || among keys k)
+  pub roomy : (h : Height) (keys : List ℕ) (room : ℕ) → AllByRecursion (λ k. k < 2 ^ levels h) keys → (of_tape true (levels h) (taped keys room)).room ≡ room
   -- a spend adds its key behind those before, and takes one unused line
-  pub grows : (h : Height) (keys : List ℕ) (room key : ℕ) → All (λ k. k < 2 ^ levels h) keys → flat (spent_on (lines (taped keys (room + 1))) key) ≡ taped (keys ++ key ∷ []) room
+  pub grows : (h : Height) (keys : List ℕ) (room key : ℕ) → AllByRecursion (λ k. k < 2 ^ levels h) keys → flat (spent_on (lines (taped keys (room + 1))) key) ≡ taped (keys ++ key ∷ []) room

@@ -24,13 +24,24 @@ impl<'t> Field<'t> {
 #[derive(Drop)]
 pub struct Block<'t> {
     fields: Vec<Field<'t>>,
+    first_line: usize,
 }
 
 impl<'t> Block<'t> {
     pub fn new(heap: Global) -> Block<'t> {
         Block {
             fields: Vec::new(heap),
+            first_line: 0,
         }
+    }
+
+    pub fn is_empty(&self) -> bool {
+        self.fields.is_empty()
+    }
+
+    // The number of its first line, from 1.
+    pub fn first_line(&self) -> usize {
+        self.first_line
     }
 
     pub fn fields(&self) -> &[Field<'t>] {
@@ -42,6 +53,9 @@ impl<'t> Block<'t> {
         let Some((name, value)) = line.split_once('=') else {
             return Ok(());
         };
+        if self.fields.is_empty() {
+            self.first_line = number;
+        }
         self.fields.push(Field {
             name: name.trim(),
             value: value.trim(),

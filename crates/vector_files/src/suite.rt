@@ -117,11 +117,11 @@ fn run_block<S: Suite>(
     block: &Block,
     suite: &mut S,
 ) -> anyhow::Result<(usize, usize)> {
-    let Some(first) = block.fields().first() else {
+    if block.is_empty() {
         return Ok((0, 0));
-    };
+    }
     let answer = suite.check(rt.alloc(), block)?;
-    let (mut cases, mut wrong) = count(rt, name, first.line(), answer)?;
+    let (mut cases, mut wrong) = count(rt, name, block.first_line(), answer)?;
     for field in block.fields().iter() {
         let answer = suite.check_line(rt.alloc(), block, field.name())?;
         let (case, fault) = count(rt, name, field.line(), answer)?;

@@ -22,6 +22,16 @@ pub(crate) fn height_of(block: &Block) -> anyhow::Result<Height> {
     }
 }
 
+fn identifier_of(heap: Global, block: &Block) -> anyhow::Result<Identifier> {
+    let bytes = block.bytes(heap, "identifier")?;
+    let mut identifier = [0u8; 16];
+    if bytes.len() != 16 {
+        return Err(anyhow!("an identifier has not 16 bytes"));
+    }
+    identifier.copy_from_slice(&bytes);
+    Ok(Identifier::new(identifier))
+}
+
 #[derive(Drop)]
 pub(crate) struct Digits;
 
@@ -56,7 +66,7 @@ impl AnyTree {
     fn grow(heap: Global, block: &Block) -> anyhow::Result<AnyTree> {
         let height = height_of(block)?;
         let width = width_of(block)?;
-        let id = Identifier::new(block.half_row(heap, "identifier")?);
+        let id = identifier_of(heap, block)?;
         let seed = Seed::new(block.row(heap, "seed")?);
         match HashName::of(block)? {
             HashName::Sha256 => Ok(AnyTree::Sha256(Tree::<Sha256>::grow(
