@@ -4,16 +4,18 @@
 use plan_sheet::{MOST_BYTES, report_on};
 use std::io;
 use std::io::Read;
+use std::process::ExitCode;
 
-fn main(rt: HostRuntime) -> io::Result<()> {
+fn main(rt: HostRuntime) -> io::Result<ExitCode> {
     let mut input = Vec::new(rt.alloc());
     rt.stdin()
         .take(MOST_BYTES as u64 + 1)
         .read_to_end(&mut input)?;
     let report = report_on(rt.alloc(), &input)?;
     rt.print(report.text.as_str())?;
-    if !report.accepted {
-        return Err(io::Error::from(io::ErrorKind::InvalidData));
+    if report.accepted {
+        Ok(ExitCode::SUCCESS)
+    } else {
+        Ok(ExitCode::FAILURE)
     }
-    Ok(())
 }

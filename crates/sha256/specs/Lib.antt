@@ -3,3 +3,4 @@ pub mod State
 pub mod View
 pub mod Feeding
 pub mod Whole
+pub mod Laws

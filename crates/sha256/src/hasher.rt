@@ -1,12 +1,9 @@
 // The incremental hash.
 ghost use Rattle.std.specs.Prelude.{◌≡◌, ℕ, ◌+◌, ◌*◌, ◌%◌, ◌^◌, ◌<◌, ◌≤◌, List, [], ◌++◌, length, get_or, take};
-ghost use Rattle.std.proofs.Math.Path.{refl};
 ghost use Rattle.sha256.specs.Fips180.{sha256 as standard, sha256};
 ghost use Rattle.sha256.specs.State.{State, first, fed, closed};
 ghost use Rattle.sha256.specs.View.{viewed};
-ghost use Rattle.sha256.specs.Feeding.{fed_none, fed_joined};
-ghost use Rattle.sha256.specs.Whole;
-ghost use borrow.Author.Rules.{rules};
+ghost use Rattle.sha256.specs.Laws.{none_law, joined_law, whole_law, long_law, bytes_law, wide_law, ots_law, tree_law};
 
 use crate::buffer::{bit_length, ends_in_block, leaves_open, marked, put, take_blocks};
 use crate::digest::digest;
@@ -46,21 +43,21 @@ impl Hash for Hasher {
 
     ghost tree = { 5 };
 
-    ghost none = { λ s. fed_none s };
+    ghost none = { none_law };
 
-    ghost joined = { λ s a b. fed_joined s a b };
+    ghost joined = { joined_law };
 
-    ghost whole = { λ m. Whole.whole m };
+    ghost whole = { whole_law };
 
-    ghost long = { unfold sha256 in λ m. refl };
+    ghost long = { long_law };
 
-    ghost bytes = { unfold sha256 in λ m. Prim.search rules };
+    ghost bytes = { bytes_law };
 
-    ghost wide = { Prim.search rules };
+    ghost wide = { wide_law };
 
-    ghost ots_low = { Prim.search rules };
+    ghost ots_low = { ots_law };
 
-    ghost tree_low = { Prim.search rules };
+    ghost tree_low = { tree_law };
 
     fn block_len() -> usize {
         64

@@ -1,13 +1,10 @@
 // The incremental hash.
 ghost use Rattle.std.specs.Prelude.{◌≡◌, ℕ, ◌+◌, ◌*◌, ◌%◌, ◌^◌, ◌<◌, ◌≤◌, List, [], ◌++◌, length, get_or, take};
-ghost use Rattle.std.proofs.Math.Path.{refl};
 ghost use Rattle.hash.specs.Chaining.{Chain};
 ghost use Rattle.shake256.specs.Fips202.{shake256 as standard, absorbed, shake256};
 ghost use Rattle.shake256.specs.State.{first, fed, closed};
 ghost use Rattle.shake256.specs.View.{viewed};
-ghost use Rattle.hash.proofs.Chaining.{chained_none, chained_joined};
-ghost use Rattle.shake256.specs.Whole;
-ghost use borrow.Author.Rules.{rules};
+ghost use Rattle.shake256.specs.Laws.{none_law, joined_law, whole_law, long_law, bytes_law, wide_law, ots_law, tree_law};
 
 use crate::buffer::{frame, leaves_open, put, take_blocks};
 use crate::pairs::end_eight;
@@ -41,21 +38,21 @@ impl Hash for Hasher {
 
     ghost tree = { 15 };
 
-    ghost none = { λ s. chained_none 136 absorbed s };
+    ghost none = { none_law };
 
-    ghost joined = { λ s a b. chained_joined 136 absorbed s a b };
+    ghost joined = { joined_law };
 
-    ghost whole = { λ m. Whole.whole m };
+    ghost whole = { whole_law };
 
-    ghost long = { unfold shake256 in λ m. refl };
+    ghost long = { long_law };
 
-    ghost bytes = { unfold shake256 in λ m. Prim.search rules };
+    ghost bytes = { bytes_law };
 
-    ghost wide = { Prim.search rules };
+    ghost wide = { wide_law };
 
-    ghost ots_low = { Prim.search rules };
+    ghost ots_low = { ots_law };
 
-    ghost tree_low = { Prim.search rules };
+    ghost tree_low = { tree_law };
 
     fn block_len() -> usize {
         136
