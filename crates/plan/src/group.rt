@@ -48,6 +48,7 @@ impl Group {
         let lower = mask & ((1u8 << (trustee - 1)) - 1);
         Some(lower.count_ones() as usize)
     }
+
     // The member at a place, from 0, where the group has so many.
     pub fn member(&self, position: usize) -> Option<u8>
         ensures { MatchOption result (length (members self.now.mask) ≤ position)
