@@ -1,5 +1,5 @@
 // The public table: the parts of all dealt keys.
-ghost use Rattle.std.specs.Prelude.{◌≡◌, ◌+◌, ◌*◌, ◌++◌, map, length, MatchResult, OnOk, nat_eq};
+ghost use Rattle.std.specs.Prelude.{◌≡◌, ◌*◌, map, length, MatchResult, OnOk, nat_eq};
 ghost use Rattle.std.specs.Option.{option_map};
 ghost use Rattle.std.specs.Result.{result_err};
 ghost use Rattle.layout.specs.Table.{table_rows};

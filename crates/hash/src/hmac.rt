@@ -1,5 +1,5 @@
 //! HMAC (RFC 2104) over any hash, with keys of 32 bytes.
-ghost use Rattle.std.specs.Prelude.{◌≡◌, ℕ, ◌-◌, ◌<◌, ◌≤◌, List, [], ◌++◌, map, length, take, replicate, bit_xor, slice_index_or};
+ghost use Rattle.std.specs.Prelude.{◌≡◌, ℕ, ◌-◌, ◌<◌, List, [], ◌++◌, map, length, take, replicate, bit_xor, slice_index_or};
 ghost use Rattle.hash.specs.Rfc2104.{hmac_of, masked, Keyed};
 
 use crate::{Hash, finish};

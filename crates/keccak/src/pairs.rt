@@ -1,5 +1,5 @@
 // Two states at once, one to a lane of the vectors.
-ghost use Rattle.std.specs.Prelude.{◌≡◌, ℕ, ◌+◌, ◌-◌, ◌*◌, ◌/◌, ◌%◌, ◌^◌, ◌<◌, length, bit_and, bit_or, bit_xor, slice_index};
+ghost use Rattle.std.specs.Prelude.{◌≡◌, ℕ, ◌-◌, ◌*◌, ◌/◌, ◌%◌, ◌^◌, ◌<◌, bit_and, bit_or, bit_xor, slice_index};
 ghost use Rattle.simd_lanes.specs.Lane.{lane};
 ghost use Rattle.keccak.specs.Fips202.{theta as theta_of, rho as rho_of, pi as pi_of, chi as chi_of, complement, permuted};
 

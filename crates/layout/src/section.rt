@@ -1,5 +1,5 @@
 // The parts of one group, which lie together in the public table.
-ghost use Rattle.std.specs.Prelude.{◌≡◌, Bool};
+ghost use Rattle.std.specs.Prelude.{◌≡◌};
 ghost use Rattle.plan.specs.Keys.{in_range};
 ghost use Rattle.layout.specs.Table.{place_in};
 

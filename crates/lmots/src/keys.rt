@@ -1,5 +1,5 @@
 // One-time public keys: from a seed, eight at a time, and the candidate from a signature's rows.
-ghost use Rattle.std.specs.Prelude.{◌≡◌, ℕ, ◌+◌, ◌-◌, ◌*◌, ◌%◌, ◌^◌, ◌<◌, ◌≤◌, List, [], ◌++◌, length, get_or, MatchResult, ◌≢◌, slice_index_or};
+ghost use Rattle.std.specs.Prelude.{◌≡◌, ℕ, ◌+◌, ◌-◌, ◌*◌, ◌%◌, ◌^◌, ◌<◌, ◌≤◌, [], ◌++◌, length, MatchResult, ◌≢◌, slice_index_or};
 ghost use Rattle.rows.specs.Bytes.{u16str, u32str, row_at, rows};
 ghost use Rattle.sizes.specs.Sizes.{bits};
 ghost use Rattle.lmots.specs.LmOts.{X, candidate_key, one_time_key, p, public_key};
@@ -47,7 +47,7 @@ fn key_of_lane<H: Hash>(
 ) -> Row
     requires chains { count ≤ 265 }
     requires lane { l < 8 }
-    ensures { result ≡ one_time_key H.Hash.hashed id.bytes q (rows count (λ i. get_or (slice_index_or ends.now i []) l [])) }
+    ensures { result ≡ one_time_key H.Hash.hashed id.bytes q (rows count (λ i. slice_index_or (slice_index_or ends.now i []) l [])) }
 {
     let mut key = opened::<H>(id, q);
     for i in 0..count {

@@ -3,7 +3,7 @@ use Rattle.std.proofs.Common.{◌≡◌, ℕ, zero, suc, ◌+◌, ◌-◌, ◌*�
 use lib.Bits.{bit_xor}
 use Rattle.std.proofs.lemmas.Slice.Eq.{bytes_eq-Decides}
 use Rattle.std.proofs.lemmas.Bool.{and_from, le-leb, lt-ltb, eq-eqb}
-use Rattle.rows.specs.Bytes.{u32str, str_tou32, part, row_at, rows}
+use Rattle.rows.specs.Bytes.{u32str, str_to_u32, part, row_at, rows}
 use Rattle.rows.proofs.Numbers.{u32_back}
 use Rattle.rows.proofs.Rows.{rows_same, length_rows, row_of_all}
 use Rattle.sizes.specs.Sizes.{levels, bits}
@@ -67,7 +67,7 @@ module _
     (hashed : List ℕ → List ℕ) (h w q : ℕ) (A B I N D C Y Z message : List ℕ)
     (lA : length A ≡ 4) (lB : length B ≡ 4) (lI : length I ≡ 16) (lN : length N ≡ 32) (lD : length D ≡ 4) (lC : length C ≡ 32)
     (lY : length Y ≡ 32 * p w) (lZ : length Z ≡ 32 * h)
-    (number : str_tou32 D ≡ q) (qs : q < 2 ^ h)
+    (number : str_to_u32 D ≡ q) (qs : q < 2 ^ h)
     (rooted : candidate_root hashed I h w q C message (λ i. row_at i Y) (λ k. row_at k Z) ≡ N)
   where
     parts_accepted : accepts_as hashed (A ++ B ++ I ++ N) message (D ++ B ++ C ++ Y ++ A ++ Z) h w ≡ true
@@ -75,16 +75,16 @@ module _
     parts_accepted =
         let n = 32 * p w in
         let s = D ++ B ++ C ++ Y ++ A ++ Z in
-        let nq : str_tou32 (part 0 4 s) ≡ q = ap str_tou32 (sig_number D B C Y A Z n lD lB lC lY lA) ∙ number in
-        let cand : candidate_root hashed (part 8 16 (A ++ B ++ I ++ N)) h w (str_tou32 (part 0 4 s)) (part 8 32 s) message
+        let nq : str_to_u32 (part 0 4 s) ≡ q = ap str_to_u32 (sig_number D B C Y A Z n lD lB lC lY lA) ∙ number in
+        let cand : candidate_root hashed (part 8 16 (A ++ B ++ I ++ N)) h w (str_to_u32 (part 0 4 s)) (part 8 32 s) message
         (λ i. row_at i (part 40 n s)) (λ k. row_at k (part (44 + n) (32 * h) s))
         ≡ candidate_root hashed I h w q C message (λ i. row_at i Y) (λ k. row_at k Z) =
         λ j. candidate_root hashed (key_id A B I N lA lB lI lN j) h w (nq j) (sig_prefix D B C Y A Z n lD lB lC lY lA j) message
         (λ i. row_at i (sig_rows D B C Y A Z n lD lB lC lY lA j)) (λ k. row_at k (sig_path D B C Y A Z n lD lB lC lY lA (32 * h) lZ j)) in
         both (both (both (both
         (eq-eqb _ _ (sig_length D B C Y A Z n lD lB lC lY lA (32 * h) lZ))
-        (eq-eqb _ _ (ap str_tou32 (sig_ots D B C Y A Z n lD lB lC lY lA ∙ sym (key_ots A B I N lA lB lI lN)))))
-        (eq-eqb _ _ (ap str_tou32 (sig_tree D B C Y A Z n lD lB lC lY lA ∙ sym (key_tree A B I N lA lB lI lN)))))
+        (eq-eqb _ _ (ap str_to_u32 (sig_ots D B C Y A Z n lD lB lC lY lA ∙ sym (key_ots A B I N lA lB lI lN)))))
+        (eq-eqb _ _ (ap str_to_u32 (sig_tree D B C Y A Z n lD lB lC lY lA ∙ sym (key_tree A B I N lA lB lI lN)))))
         (lt-ltb _ _ (rw nq qs)))
         ((bytes_eq-Decides _ _).1 (key_root A B I N lA lB lI lN ∙ sym rooted ∙ sym cand))
 
@@ -100,11 +100,11 @@ accepted_yes hashed ots tree ots< tree< key message sig a =
     let Z = rows h a.path in
     let K = root_layout ots tree h w a.I a.N in
     let S = layout ots tree h w a.q a.C Y Z in
-    let eh : height_of tree (str_tou32 (part 0 4 K)) ≡ Some h =
-    ap (λ s. height_of tree (str_tou32 s)) (key_tree A B a.I a.N refl refl a.i_long a.n_long)
+    let eh : height_of tree (str_to_u32 (part 0 4 K)) ≡ Some h =
+    ap (λ s. height_of tree (str_to_u32 s)) (key_tree A B a.I a.N refl refl a.i_long a.n_long)
     ∙ ap (height_of tree) (u32_back (tree_code tree h) (tree_code_small tree h tree<)) ∙ height_back tree a.height in
-    let ew : width_of ots (str_tou32 (part 4 4 K)) ≡ Some w =
-    ap (λ s. width_of ots (str_tou32 s)) (key_ots A B a.I a.N refl refl a.i_long a.n_long)
+    let ew : width_of ots (str_to_u32 (part 4 4 K)) ≡ Some w =
+    ap (λ s. width_of ots (str_to_u32 s)) (key_ots A B a.I a.N refl refl a.i_long a.n_long)
     ∙ ap (width_of ots) (u32_back (ots_code ots w) (ots_code_small ots w ots<)) ∙ width_back ots a.width in
     let yes : accepts hashed ots tree K message S ≡ true =
     both (both (le-leb (length message) 65536 a.message_short) (eq-eqb (length K) 56 (key_length A B a.I a.N refl refl a.i_long a.n_long)))

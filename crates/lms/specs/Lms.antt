@@ -1,7 +1,7 @@
 -- LMS as RFC 8554 has it, over any hash of 32 bytes (m = 32). I is the identifier, q the number of a leaf, h the height and w the width.
 use Rattle.std.specs.Prelude.{ℕ, zero, suc, ◌+◌, ◌-◌, ◌*◌, ◌/◌, ◌%◌, ◌^◌, Bool, false, cond, ◌&&◌, List, ◌++◌, length, Some, None, Option, ◌==◌, bit_xor, nat_le, nat_lt}
 use Rattle.std.specs.Str.{bytes_eq}
-use Rattle.rows.specs.Bytes.{u16str, u32str, str_tou32, part, row_at, rows}
+use Rattle.rows.specs.Bytes.{u16str, u32str, str_to_u32, part, row_at, rows}
 use Rattle.lmots.specs.LmOts.{p, digit, digest, candidate_key, X, prefix, public_key}
 
 module _ (hashed : List ℕ → List ℕ) (I : List ℕ) where
@@ -63,11 +63,11 @@ signature_length h w = 44 + 32 * p w + 32 * h
 unfoldable pub accepts_as : (List ℕ → List ℕ) → List ℕ → List ℕ → List ℕ → ℕ → ℕ → Bool
 accepts_as hashed key message sig h w =
     (length sig == signature_length h w)
-    && str_tou32 (part 4 4 sig) == str_tou32 (part 4 4 key)
-    && str_tou32 (part (40 + 32 * p w) 4 sig) == str_tou32 (part 0 4 key)
-    && nat_lt (str_tou32 (part 0 4 sig)) (2 ^ h)
+    && str_to_u32 (part 4 4 sig) == str_to_u32 (part 4 4 key)
+    && str_to_u32 (part (40 + 32 * p w) 4 sig) == str_to_u32 (part 0 4 key)
+    && nat_lt (str_to_u32 (part 0 4 sig)) (2 ^ h)
     && bytes_eq (part 24 32 key)
-    (candidate_root hashed (part 8 16 key) h w (str_tou32 (part 0 4 sig)) (part 8 32 sig) message
+    (candidate_root hashed (part 8 16 key) h w (str_to_u32 (part 0 4 sig)) (part 8 32 sig) message
     (λ i. row_at i (part 40 (32 * p w) sig))
     (λ k. row_at k (part (44 + 32 * p w) (32 * h) sig)))
 
@@ -94,4 +94,4 @@ module _ (hashed : List ℕ → List ℕ) (ots tree : ℕ) where
   abbrev pub accepts : List ℕ → List ℕ → List ℕ → Bool
   accepts key message sig =
       nat_le (length message) 65536 && length key == 56
-      && given (height_of tree (str_tou32 (part 0 4 key))) (λ h. given (width_of ots (str_tou32 (part 4 4 key))) (accepts_as hashed key message sig h))
+      && given (height_of tree (str_to_u32 (part 0 4 key))) (λ h. given (width_of ots (str_to_u32 (part 4 4 key))) (accepts_as hashed key message sig h))

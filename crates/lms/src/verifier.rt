@@ -1,6 +1,6 @@
 // Whether a root accepts a signature of a message.
 ghost use Rattle.std.specs.Prelude.{◌≡◌, ◌+◌, ◌*◌, ◌^◌, ◌<◌, ◌≤◌, true, ◌&&◌, length, MatchOption, ◌==◌};
-ghost use Rattle.rows.specs.Bytes.{part, row_at, str_tou32};
+ghost use Rattle.rows.specs.Bytes.{part, row_at, str_to_u32};
 ghost use Rattle.sizes.specs.Sizes.{bits, levels};
 ghost use Rattle.lmots.specs.LmOts.{p};
 ghost use Rattle.lms.specs.Accepted.{Accepted};
@@ -18,7 +18,7 @@ pub(crate) const LONGEST: usize = 65536;
 
 fn u32_at(bytes: &[u8], at: usize) -> u32
     requires { at + 4 ≤ length bytes.now }
-    ensures { result ≡ str_tou32 (part at 4 bytes.now) }
+    ensures { result ≡ str_to_u32 (part at 4 bytes.now) }
 {
     u32::from_be_bytes([bytes[at], bytes[at + 1], bytes[at + 2], bytes[at + 3]])
 }
@@ -68,8 +68,8 @@ fn codes_agree(root: &[u8], sig: &[u8], place: usize) -> bool
     requires root { 8 ≤ length root.now }
     requires sig { 8 ≤ length sig.now }
     requires inside { place + 4 ≤ length sig.now }
-    ensures { result ≡ ((str_tou32 (part 4 4 sig.now) == str_tou32 (part 4 4 root.now))
-        && str_tou32 (part place 4 sig.now) == str_tou32 (part 0 4 root.now)) }
+    ensures { result ≡ ((str_to_u32 (part 4 4 sig.now) == str_to_u32 (part 4 4 root.now))
+        && str_to_u32 (part place 4 sig.now) == str_to_u32 (part 0 4 root.now)) }
 {
     u32_at(sig, 4) == u32_at(root, 4) && u32_at(sig, place) == u32_at(root, 0)
 }
@@ -77,8 +77,8 @@ fn codes_agree(root: &[u8], sig: &[u8], place: usize) -> bool
 // The number of the leaf that a signature names, where the tree has it.
 fn leaf_of(height: Height, sig: &[u8]) -> Option<u32>
     requires { 4 ≤ length sig.now }
-    ensures { MatchOption result (2 ^ levels height ≤ str_tou32 (part 0 4 sig.now))
-        (λ q. (q ≡ str_tou32 (part 0 4 sig.now)) × (q < 2 ^ levels height)) }
+    ensures { MatchOption result (2 ^ levels height ≤ str_to_u32 (part 0 4 sig.now))
+        (λ q. (q ≡ str_to_u32 (part 0 4 sig.now)) × (q < 2 ^ levels height)) }
 {
     let q = u32_at(sig, 0);
     if q < height.keys() { Some(q) } else { None }

@@ -1,5 +1,5 @@
 // A book: pads on borrowed bytes, for consecutive keys from a stated first one.
-ghost use Rattle.std.specs.Prelude.{◌≡◌, ℕ, ◌+◌, ◌*◌, ◌^◌, ◌<◌, ◌≤◌, List, length};
+ghost use Rattle.std.specs.Prelude.{◌≡◌, ℕ, ◌+◌, ◌*◌, ◌<◌, ◌≤◌, List};
 ghost use Rattle.sizes.specs.Sizes.{levels, bits};
 ghost use Rattle.hash.specs.Rfc2104.{hmac_of};
 ghost use Rattle.sha256.specs.Fips180.{sha256 as standard};
@@ -8,7 +8,7 @@ ghost use Rattle.sha256.specs.View.{viewed};
 ghost use Rattle.lms.specs.Scheme.{components, positions};
 ghost use Rattle.pads.specs.Labels.{check_bytes};
 ghost use Rattle.pads.specs.Source.{mac_of};
-ghost use Rattle.pads.specs.Books.{rows_of_key, row_of, book_holds, book_pad, of_book};
+ghost use Rattle.pads.specs.Books.{rows_of_key, row_of, of_book};
 
 use crate::hmac_pads::HmacPads;
 use crate::interface::Pads;

@@ -1,5 +1,5 @@
 // What a pad is for: a row of a key.
-ghost use Rattle.std.specs.Prelude.{◌≡◌, ◌++◌};
+ghost use Rattle.std.specs.Prelude.{◌≡◌};
 ghost use Rattle.pads.specs.Labels.{label_bytes, check_bytes};
 
 use rows::{Row, put};

@@ -1,5 +1,5 @@
 // What a plan says of its groups and keys.
-ghost use Rattle.std.specs.Prelude.{◌≡◌, ◌*◌, ◌^◌, ◌<◌, ◌≤◌, length};
+ghost use Rattle.std.specs.Prelude.{◌≡◌, ◌*◌, ◌^◌, ◌<◌, ◌≤◌};
 ghost use Rattle.sizes.specs.Sizes.{levels};
 ghost use Rattle.plan.specs.Keys.{share, undealt};
 ghost use Rattle.plan.specs.Groups.{group_at, group_of, owning};

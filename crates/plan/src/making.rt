@@ -1,6 +1,5 @@
 // Plans are made of parts that keep the rules, and of no others.
-ghost use Rattle.std.specs.Prelude.{◌≡◌, ◌^◌, length, Decides, MatchOption};
-ghost use Rattle.sizes.specs.Sizes.{levels, bits};
+ghost use Rattle.std.specs.Prelude.{◌≡◌, length, Decides, MatchOption};
 ghost use Rattle.plan.specs.Shape.{Valid, Within, Rising};
 ghost use Rattle.plan.specs.View.{view, shaped};
 

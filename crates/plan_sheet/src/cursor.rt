@@ -1,5 +1,5 @@
 // A cursor over a plan sheet, whose methods yield fields with their place.
-ghost use Rattle.std.specs.Prelude.{◌≡◌, ℕ, ◌+◌, ◌-◌, ◌*◌, ◌^◌, ◌<◌, ◌≤◌, true, ◌&&◌, map, length, is_some, Some, None, MatchResult, ◌==◌, nat_le, nat_lt};
+ghost use Rattle.std.specs.Prelude.{◌≡◌, ◌+◌, ◌-◌, ◌*◌, ◌^◌, ◌<◌, ◌≤◌, true, ◌&&◌, map, length, is_some, Some, None, MatchResult, ◌==◌, nat_le, nat_lt};
 ghost use Rattle.std.specs.Option.{unwrap_or};
 ghost use Rattle.columns.specs.Number.{number, blank};
 ghost use Rattle.plan_sheet.specs.Checks.{field_at, worth, entry_faults, quantity_fault, heading_faults, Headed, n_of};

@@ -1,5 +1,5 @@
 // The members of a group, counted entry by entry.
-ghost use Rattle.std.specs.Prelude.{◌≡◌, ℕ, ◌+◌, ◌-◌, ◌*◌, ◌^◌, ◌<◌, ◌≤◌, true, false, ◌&&◌, List, ◌∷◌, is_some, MatchOption, nat_lt};
+ghost use Rattle.std.specs.Prelude.{◌≡◌, ℕ, ◌+◌, ◌-◌, ◌^◌, ◌<◌, ◌≤◌, true, false, ◌&&◌, List, ◌∷◌, is_some, MatchOption, nat_lt};
 ghost use Rattle.std.specs.Option.{unwrap_or};
 ghost use Rattle.plan_sheet.specs.Entries.{orderly, bit};
 

@@ -11,8 +11,8 @@ u16str x = (x / 256 % 256) ∷ (x % 256) ∷ []
 abbrev pub u32str : ℕ → List ℕ
 u32str x = (x / 16777216 % 256) ∷ (x / 65536 % 256) ∷ (x / 256 % 256) ∷ (x % 256) ∷ []
 
-abbrev pub str_tou32 : List ℕ → ℕ
-str_tou32 s = slice_index s 0 * 16777216 + slice_index s 1 * 65536 + slice_index s 2 * 256 + slice_index s 3
+abbrev pub str_to_u32 : List ℕ → ℕ
+str_to_u32 s = slice_index s 0 * 16777216 + slice_index s 1 * 65536 + slice_index s 2 * 256 + slice_index s 3
 
 -- n bytes from the place `at` on
 abbrev pub part : ℕ → ℕ → List ℕ → List ℕ

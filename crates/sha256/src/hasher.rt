@@ -1,6 +1,5 @@
 // The incremental hash.
-ghost use Rattle.std.specs.Prelude.{◌≡◌, ℕ, ◌+◌, ◌*◌, ◌%◌, ◌^◌, ◌<◌, ◌≤◌, List, [], ◌++◌, length, get_or, take};
-ghost use Rattle.sha256.specs.Fips180.{sha256 as standard, sha256};
+ghost use Rattle.sha256.specs.Fips180.{sha256 as standard};
 ghost use Rattle.sha256.specs.State.{State, first, fed, closed};
 ghost use Rattle.sha256.specs.View.{viewed};
 ghost use Rattle.sha256.specs.Laws.{none_law, joined_law, whole_law, long_law, bytes_law, wide_law, ots_law, tree_law};

@@ -1,5 +1,5 @@
 // Eight blocks at once, one to a lane.
-ghost use Rattle.std.specs.Prelude.{◌≡◌, ℕ, ◌+◌, ◌-◌, ◌*◌, ◌/◌, ◌%◌, ◌^◌, ◌<◌, [], length, take, bit_and, bit_or, bit_xor, slice_index, slice_index_or};
+ghost use Rattle.std.specs.Prelude.{◌≡◌, ℕ, ◌+◌, ◌-◌, ◌*◌, ◌/◌, ◌%◌, ◌^◌, ◌<◌, [], take, bit_and, bit_or, bit_xor, slice_index, slice_index_or};
 ghost use Rattle.simd_lanes.specs.Lane.{lane};
 ghost use Rattle.sha256_block.specs.Fips180.{add as plus, complement, ch, maj, big_sigma0, big_sigma1, sigma0, sigma1, word, scheduled, schedule, turn, vars, summed, compressed};
 

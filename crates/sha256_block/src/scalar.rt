@@ -1,5 +1,5 @@
 // One block.
-ghost use Rattle.std.specs.Prelude.{◌≡◌, ℕ, ◌+◌, ◌*◌, ◌<◌, length, take};
+ghost use Rattle.std.specs.Prelude.{◌≡◌, ◌+◌, ◌*◌, ◌<◌, take};
 ghost use Rattle.sha256_block.specs.Fips180.{ch, maj, big_sigma0, big_sigma1, sigma0, sigma1, word, scheduled, schedule, turn, vars, summed, compressed};
 
 use crate::constants::round_constant;

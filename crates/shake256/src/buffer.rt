@@ -1,5 +1,5 @@
 // Blocks of a message, and the block that is not whole yet.
-ghost use Rattle.std.specs.Prelude.{◌≡◌, ◌+◌, ◌-◌, ◌<◌, ◌≤◌, [], ◌∷◌, ◌++◌, length, replicate, nat_lt};
+ghost use Rattle.std.specs.Prelude.{◌≡◌, ◌+◌, ◌-◌, ◌<◌, ◌≤◌, [], ◌++◌, length, replicate, nat_lt};
 ghost use Rattle.hash.specs.Buffers.{written};
 ghost use Rattle.hash.specs.Chaining.{link, chained};
 ghost use Rattle.shake256.specs.Fips202.{absorbed, padding};

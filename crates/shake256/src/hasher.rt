@@ -1,7 +1,6 @@
 // The incremental hash.
-ghost use Rattle.std.specs.Prelude.{◌≡◌, ℕ, ◌+◌, ◌*◌, ◌%◌, ◌^◌, ◌<◌, ◌≤◌, List, [], ◌++◌, length, get_or, take};
 ghost use Rattle.hash.specs.Chaining.{Chain};
-ghost use Rattle.shake256.specs.Fips202.{shake256 as standard, absorbed, shake256};
+ghost use Rattle.shake256.specs.Fips202.{shake256 as standard};
 ghost use Rattle.shake256.specs.State.{first, fed, closed};
 ghost use Rattle.shake256.specs.View.{viewed};
 ghost use Rattle.shake256.specs.Laws.{none_law, joined_law, whole_law, long_law, bytes_law, wide_law, ots_law, tree_law};

@@ -1,5 +1,5 @@
 // Blocks of 136 bytes into the state, and 32 bytes out of it.
-ghost use Rattle.std.specs.Prelude.{◌≡◌, ℕ, ◌<◌};
+ghost use Rattle.std.specs.Prelude.{◌≡◌, ◌<◌};
 ghost use Rattle.shake256.specs.Fips202.{word, added, absorbed, squeezed};
 
 use keccak::permute;

@@ -1,9 +1,7 @@
 -- Lists of sources and of members, looked at one after the other.
-use Rattle.std.proofs.Common.{◌≡◌, ℕ, zero, suc, ◌+◌, ◌-◌, ◌<◌, ◌≤◌, Bool, true, false, not, ◌&&◌, ◌||◌, List, [], ◌∷◌, map, length, get_or, take, drop, replicate, Decides, sym, refl, ap, ◌∙◌, ap₂, arith, length-drop, rules}
+use Rattle.std.proofs.Common.{◌≡◌, ℕ, zero, suc, ◌+◌, ◌-◌, ◌<◌, ◌≤◌, true, false, not, ◌&&◌, ◌||◌, List, [], ◌∷◌, map, length, get_or, take, drop, replicate, sym, refl, ap, ◌∙◌, ap₂, arith, length-drop}
 use lib.Bits.{xor_zero_r}
 use Rattle.std.proofs.lemmas.List.{take_all}
-use Rattle.std.specs.Str.{bytes_eq}
-use Rattle.std.proofs.lemmas.Slice.Eq.{bytes_eq-Decides}
 use Rattle.rows.specs.Bytes.{xored}
 use Rattle.rows.proofs.Added.{length_xored}
 use Rattle.pads.specs.declared.label.Label.{Label}
@@ -88,7 +86,3 @@ unfolding xored
 xored_zeros [] n = refl
 xored_zeros (x ∷ xs) zero = refl
 xored_zeros (x ∷ xs) (suc n) = ap₂ (λ y ys. y ∷ ys) (xor_zero_r x) (xored_zeros xs n)
-
--- a decided comparison is the test of bytes
-pub decided : (xs ys : List ℕ) (r : Bool) → Decides r (xs ≡ ys) → r ≡ bytes_eq xs ys
-decided xs ys r h = search (rules, bytes_eq-Decides)

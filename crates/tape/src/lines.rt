@@ -1,5 +1,5 @@
 // The lines of a tape: six bytes each.
-ghost use Rattle.std.specs.Prelude.{◌≡◌, ℕ, ◌+◌, ◌*◌, ◌<◌, ◌≤◌, ◌∷◌, length, MatchOption};
+ghost use Rattle.std.specs.Prelude.{◌≡◌, ℕ, ◌+◌, ◌*◌, ◌<◌, ◌≤◌, length, MatchOption};
 ghost use Rattle.tape.specs.Lines.{lines, line_of, line_key, is_key, unused, lists, blanks, all_unused, fresh_key, sound, column_of, FirstUnused};
 
 // The key that a line lists, if it is a used line.

@@ -1,6 +1,6 @@
 use Rattle.std.proofs.Common.{◌≡◌, ℕ, ◌+◌, ◌*◌, ◌^◌, ◌<◌, ◌&&◌, eqb, List, Decides, sym, ap, ◌∙◌, subst, subst₂, arith}
 use Rattle.std.proofs.lemmas.Slice.Eq.{bytes_eq-Decides}
-use Rattle.rows.specs.Bytes.{str_tou32, part, row_at}
+use Rattle.rows.specs.Bytes.{str_to_u32, part, row_at}
 use Rattle.sizes.specs.Sizes.{levels, bits}
 use Rattle.lmots.specs.LmOts.{p}
 use Rattle.lms.specs.Lms.{candidate_root}
@@ -9,9 +9,9 @@ use Rattle.lms.proofs.verifier.verify_as.Goals as goal
 
 -- the two tests of codes, with the tree code at the place that p tells
 codes : (root s : List ℕ) (w n : ℕ) → n ≡ p w →
-    (eqb (str_tou32 (part 4 4 s)) (str_tou32 (part 4 4 root)) && eqb (str_tou32 (part (40 + 32 * n) 4 s)) (str_tou32 (part 0 4 root)))
-    ≡ (eqb (str_tou32 (part 4 4 s)) (str_tou32 (part 4 4 root)) && eqb (str_tou32 (part (40 + 32 * p w) 4 s)) (str_tou32 (part 0 4 root)))
-codes root s w n e = ap (λ k. eqb (str_tou32 (part 4 4 s)) (str_tou32 (part 4 4 root)) && eqb (str_tou32 (part (40 + 32 * k) 4 s)) (str_tou32 (part 0 4 root))) e
+    (eqb (str_to_u32 (part 4 4 s)) (str_to_u32 (part 4 4 root)) && eqb (str_to_u32 (part (40 + 32 * n) 4 s)) (str_to_u32 (part 0 4 root)))
+    ≡ (eqb (str_to_u32 (part 4 4 s)) (str_to_u32 (part 4 4 root)) && eqb (str_to_u32 (part (40 + 32 * p w) 4 s)) (str_to_u32 (part 0 4 root)))
+codes root s w n e = ap (λ k. eqb (str_to_u32 (part 4 4 s)) (str_to_u32 (part 4 4 root)) && eqb (str_to_u32 (part (40 + 32 * k) 4 s)) (str_to_u32 (part 0 4 root))) e
 
 pub returns-then-sig-end : goal.returns-then-sig-end
 returns-then-sig-end g c =
