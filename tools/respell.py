@@ -18,6 +18,8 @@ RT_TOKEN = re.compile(r"(?P<comment>//[^\n]*)|(?P<string>\"(?:[^\"\\]|\\.)*\")|(
 DEFINES = re.compile(r"( *)((?:(?:abbrev|opaque|unfoldable|pub|instance)\s+)*)(?:(record|data)\s+)?([^\s:(){},.=|λ⟨⟩@\"]+)((?:\s+[^=:]*?)?)\s*:(?:\s|$)")
 NOT_NAMES = {"use", "mod", "open", "module", "let", "pub", "where", "abbrev", "unfoldable", "unfolding", "record", "data", "in", "module", "_"}
 KEPT = {"LmOts"}
+# Names that the rule would spell badly, or that would meet a name of the library; and aliases of ghost imports.
+BY_HAND = {"strTou32": "str_to_u32", "bit-or": "bit_of_or", "thetaOf": "theta_of", "piOf": "pi_of", "chiOf": "chi_of"}
 
 
 def files(root):
@@ -103,6 +105,7 @@ def collect(root):
 def main(argv):
     root = os.path.abspath(argv[0] if argv else ".")
     names, goals, where = collect(root)
+    names.update(BY_HAND)
     renamed = {old: new for old, new in names.items() if old != new}
     clash = []
     for old, new in sorted(renamed.items()):
