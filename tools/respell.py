@@ -1,11 +1,11 @@
 #!/usr/bin/env python3
 """Brings this repository's own definitions and lemmas to Rattle's spelling: words in snake case, types in camel case, ' for a prime.
 
-usage: tools/respell.py [FOLDER]     run once in the repository (or in FOLDER), right after port.py
+usage: python3 tools/respell.py [FOLDER]     run once in the repository (or in FOLDER), right after the kit's script port.py, on files of the older Rattle
 
 It reads the names that the .antt files of crates/*/specs and crates/*/proofs define, and respells them wherever they stand:
 in .antt files, in the clauses and ghost items of .rt files, and in must-fail edits. Names that Rattle makes for proofs (goals, steps),
-names of the libraries, functions of src/, strings and prose stay. It stops, and writes nothing, where two names would fall together.
+names of the libraries, functions of src/, strings and prose (but for names in backquotes) stay. It stops, and writes nothing, where two names would fall together.
 """
 import collections
 import os
@@ -83,13 +83,12 @@ def imported(text):
 
 
 def collect(root):
-    names, goals, fields, where = {}, set(), set(), collections.defaultdict(set)
+    names, where = {}, collections.defaultdict(set)
     for path in files(root):
         if not path.endswith(".antt"):
             continue
         text = read(path)
         made = goal_names(text)
-        goals |= made
         for name, is_type in defined(text):
             if name in made or name in KEPT or not re.search(r"\w", name):
                 continue
@@ -99,12 +98,12 @@ def collect(root):
                 print(f"look: {name} is a type in one place and a word in another: {path}")
             if name not in names or new != name:
                 names[name] = new
-    return names, goals, where
+    return names, where
 
 
 def main(argv):
     root = os.path.abspath(argv[0] if argv else ".")
-    names, goals, where = collect(root)
+    names, where = collect(root)
     names.update(BY_HAND)
     renamed = {old: new for old, new in names.items() if old != new}
     clash = []
@@ -115,7 +114,7 @@ def main(argv):
     for old, new in renamed.items():
         seen[new].add(old)
     clash += [f"{sorted(olds)} -> {new}" for new, olds in seen.items() if len(olds) > 1]
-    if clash and "--force" not in argv:
+    if clash:
         print("\n".join(clash))
         print("respell: names would fall together: nothing was written")
         return 1
