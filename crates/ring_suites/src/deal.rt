@@ -1,7 +1,7 @@
 // What the dealer of a setting gives.
 use crate::setting::{Setting, rows_of_key};
 use crate::sources::hmac_sources;
-use anyhow::anyhow;
+use anyhow::Context;
 use dealer::Dealer;
 use hash::Hash;
 use layout::table_rows;
@@ -17,16 +17,12 @@ pub(crate) struct Dealt {
 }
 
 // Hands on that a call was accepted.
-fn accepted(was: bool) -> anyhow::Result<()> {
-    if was {
-        Ok(())
-    } else {
-        Err(anyhow!("a vector's key is refused"))
-    }
+fn accepted<E: Drop>(answer: Result<(), E>) -> anyhow::Result<()> {
+    answer.ok().context("a vector's key is refused")
 }
 
 fn dealer_of<H: Hash>(heap: Global, setting: &Setting) -> anyhow::Result<Dealer<H>> {
-    Ok(Dealer::<H>::new(heap, setting.plan, setting.id, setting.seed)?)
+    Ok(Dealer::<H>::new(heap, setting.plan, setting.origin)?)
 }
 
 pub(crate) fn deal_key<H: Hash>(
@@ -36,13 +32,12 @@ pub(crate) fn deal_key<H: Hash>(
 ) -> anyhow::Result<Dealt> {
     let dealer = dealer_of::<H>(heap, setting)?;
     let sources = hmac_sources::<H>(heap, &setting.pad_keys)?;
-    let length = 32 * rows_of_key(&setting.plan, key) as usize;
     let mut root = vec![in heap; 0u8; 56]?;
-    accepted(dealer.root(&mut root).is_ok())?;
-    let mut sheet = vec![in heap; 0u8; length]?;
-    accepted(dealer.key_sheet(&sources, key, &mut sheet).is_ok())?;
+    accepted(dealer.root(&mut root))?;
+    let mut sheet = vec![in heap; 0u8; 32 * rows_of_key(&setting.plan, key)]?;
+    accepted(dealer.key_sheet(&sources, key, &mut sheet))?;
     let mut part = sheet.clone()?;
-    accepted(split(&setting.plan, &sources, key, &mut part).is_ok())?;
+    accepted(split(&setting.plan, &sources, key, &mut part))?;
     Ok(Dealt { root, sheet, part })
 }
 
@@ -56,19 +51,18 @@ pub(crate) fn sign<H: Hash>(
 ) -> anyhow::Result<Vec<u8>> {
     let dealer = dealer_of::<H>(heap, setting)?;
     let mut signature = vec![in heap; 0u8; length]?;
-    accepted(dealer.sign(key, message, &mut signature).is_ok())?;
+    accepted(dealer.sign(key, message, &mut signature))?;
     Ok(signature)
 }
 
 // The whole public table, dealt key by key.
 pub(crate) fn deal_table<H: Hash>(heap: Global, setting: &Setting) -> anyhow::Result<Vec<u8>> {
+    let plan = &setting.plan;
     let dealer = dealer_of::<H>(heap, setting)?;
     let sources = hmac_sources::<H>(heap, &setting.pad_keys)?;
-    let mut table = vec![in heap; 0u8; 32 * table_rows(&setting.plan)]?;
-    for key in 0..setting.plan.height().keys() {
-        if setting.plan.owner(key).is_some() {
-            accepted(dealer.deal_part(&sources, key, &mut table).is_ok())?;
-        }
+    let mut table = vec![in heap; 0u8; 32 * table_rows(plan)]?;
+    for key in (0..plan.height().keys()).filter(|key| plan.owner(*key).is_some()) {
+        accepted(dealer.deal_part(&sources, key, &mut table))?;
     }
     Ok(table)
 }

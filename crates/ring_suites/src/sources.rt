@@ -1,7 +1,8 @@
 // The trustees' pad sources.
-use anyhow::anyhow;
+use anyhow::{Context, ensure};
+use either::{Either, Left, Right};
 use hash::Hash;
-use pads::{Book, Choice, HmacPads};
+use pads::{Book, HmacPads};
 use plan::Plan;
 use rows::Row;
 use sha256::Hasher;
@@ -14,49 +15,33 @@ pub(crate) fn hmac_sources<H: Hash>(
     keys: &[Row],
 ) -> Result<Vec<HmacPads<H>>, AllocError> {
     let mut sources = Vec::new(heap);
-    for key in keys.iter() {
+    for key in keys {
         sources.push(HmacPads::new(key))?;
     }
     Ok(sources)
 }
 
 // A source by HMAC, or a book.
-pub(crate) type Source = Choice<HmacPads<Hasher>, Book<'static>>;
+pub(crate) type Source = Either<HmacPads<Hasher>, Book<'static>>;
 
-fn keyed(key: &Row) -> Source {
-    Choice::First(HmacPads::new(key))
-}
-
-// A book without pages, which holds no key.
-fn empty_book(plan: &Plan) -> Source {
-    Choice::Second(Book::new(&[], 0, plan.height(), plan.width(), &[0x99; 32]))
-}
-
-// The source that a word names: a key in hexadecimal, or none.
+// The source that a word names: a key in hexadecimal, or none, which is a book without pages, since that holds no key.
 fn source_of(heap: Global, plan: &Plan, word: &str) -> anyhow::Result<Source> {
     if word == "none" {
-        return Ok(empty_book(plan));
+        let book = Book::new(&[], 0, plan.height(), plan.width(), &[0x99; 32]);
+        return Ok(Right(book));
     }
-    let Some(bytes) = decode(heap, word)? else {
-        return Err(anyhow!("a pad key is not hexadecimal"));
-    };
-    if bytes.len() != 32 {
-        return Err(anyhow!("a pad key has not 32 bytes"));
-    }
+    let bytes = decode(heap, word)?.context("a pad key is not hexadecimal")?;
+    ensure!(bytes.len() == 32, "a pad key has not 32 bytes");
     let mut key = [0u8; 32];
     key.copy_from_slice(&bytes);
-    Ok(keyed(&key))
+    Ok(Left(HmacPads::new(&key)))
 }
 
 // The sources that a block names, however many.
-pub(crate) fn named_sources(
-    heap: Global,
-    plan: &Plan,
-    block: &Block,
-) -> anyhow::Result<Vec<Source>> {
-    let mut sources = Vec::new(heap);
+pub(crate) fn named_sources(plan: &Plan, block: &Block) -> anyhow::Result<Vec<Source>> {
+    let mut sources = Vec::new(block.heap());
     for word in block.required("pad_keys")?.split_whitespace() {
-        sources.push(source_of(heap, plan, word)?)?;
+        sources.push(source_of(block.heap(), plan, word)?)?;
     }
     Ok(sources)
 }

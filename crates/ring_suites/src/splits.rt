@@ -1,7 +1,7 @@
 // One key of a dealt plan: a file is one setting, and each line that speaks of the root, the key sheet, the part or the signature is a case.
 use crate::deal::{Dealt, deal_key, sign};
 use crate::setting::{Setting, rows_of_key};
-use anyhow::anyhow;
+use anyhow::Context;
 use plan::Plan;
 use sha256::{Hasher as Sha256, sha256};
 use shake256::Hasher as Shake256;
@@ -9,21 +9,16 @@ use std::alloc::{AllocError, Global};
 use vector_files::{Block, HashName, Suite};
 
 // What the blocks so far have said.
-#[derive(Drop)]
+#[derive(Drop, Default)]
 pub struct Splits {
     setting: Option<Setting>,
-    key: u32,
-    dealt: Option<Dealt>,
+    dealt: Option<(u32, Dealt)>,
     message: Option<Vec<u8>>,
 }
 
 // Some bytes of others; none where they do not reach that far.
 fn cut(heap: Global, bytes: &[u8], from: usize, to: usize) -> Result<Vec<u8>, AllocError> {
-    if from <= to && to <= bytes.len() {
-        bytes[from..to].to_vec(heap)
-    } else {
-        Ok(Vec::new(heap))
-    }
+    bytes.get(from..to).unwrap_or(&[]).to_vec(heap)
 }
 
 // The bytes that a line has to have, if it is one on the root, the key sheet or the part.
@@ -37,13 +32,8 @@ fn bytes_of_line(
     let Some(group) = plan.owner(key) else {
         return Ok(None);
     };
-    let checks = group.size().saturating_mul(32).saturating_add(32);
-    let first_chain = plan
-        .height()
-        .levels()
-        .saturating_mul(32)
-        .saturating_add(checks);
-    let front = first_chain.saturating_add(32);
+    let checks = 32 + 32 * group.size();
+    let front = checks + 32 * plan.height().levels() + 32;
     let end = dealt.part.len();
     let bytes = match name {
         "root" => dealt.root.clone()?,
@@ -63,99 +53,83 @@ fn bytes_of_line(
 
 // Whether the members of the group that owns a key are those listed.
 fn members_are(plan: &Plan, key: u32, listed: &[u32]) -> bool {
-    let Some(group) = plan.owner(key) else {
-        return false;
-    };
-    for (position, trustee) in listed.iter().enumerate() {
-        match group.member(position) {
-            Some(member) if member as u32 == *trustee => {}
-            _ => return false,
-        }
-    }
-    listed.len() == group.size()
+    plan.owner(key).is_some_and(|group| {
+        let members = group.members().map(|trustee| trustee as u32);
+        members.eq(listed.iter().copied())
+    })
 }
 
 impl Splits {
-    pub fn new() -> Splits {
-        Splits {
-            setting: None,
-            key: 0,
-            dealt: None,
-            message: None,
-        }
-    }
-
     // Deals the key of a block.
-    fn deal(&mut self, heap: Global, block: &Block) -> anyhow::Result<()> {
-        let Some(setting) = &self.setting else {
-            return Err(anyhow!("a key stands before its plan"));
-        };
+    fn deal(&mut self, block: &Block) -> anyhow::Result<()> {
+        let setting = self
+            .setting
+            .as_ref()
+            .context("a key stands before its plan")?;
         let key = block.number("key")?;
         let dealt = match setting.hash {
-            HashName::Sha256 => deal_key::<Sha256>(heap, setting, key)?,
-            HashName::Shake256 => deal_key::<Shake256>(heap, setting, key)?,
+            HashName::Sha256 => deal_key::<Sha256>(block.heap(), setting, key)?,
+            HashName::Shake256 => deal_key::<Shake256>(block.heap(), setting, key)?,
         };
-        self.key = key;
-        self.dealt = Some(dealt);
+        self.dealt = Some((key, dealt));
         Ok(())
     }
 
     // Whether the dealer signs the message as a block says.
-    fn signs(&self, heap: Global, block: &Block) -> anyhow::Result<bool> {
-        let Some(setting) = &self.setting else {
-            return Err(anyhow!("a signature stands before its plan"));
-        };
-        let Some(message) = &self.message else {
-            return Err(anyhow!("a signature stands before its message"));
-        };
-        let wanted = block.bytes(heap, "signature")?;
+    fn signs(&self, block: &Block) -> anyhow::Result<bool> {
+        let setting = self
+            .setting
+            .as_ref()
+            .context("a signature stands before its plan")?;
+        let message = self
+            .message
+            .as_ref()
+            .context("a signature stands before its message")?;
+        let key = self.dealt.as_ref().map_or(0, |dealt| dealt.0);
+        let wanted = block.bytes("signature")?;
+        let heap = block.heap();
         let signature = match setting.hash {
-            HashName::Sha256 => sign::<Sha256>(heap, setting, self.key, message, wanted.len())?,
-            HashName::Shake256 => sign::<Shake256>(heap, setting, self.key, message, wanted.len())?,
+            HashName::Sha256 => sign::<Sha256>(heap, setting, key, message, wanted.len())?,
+            HashName::Shake256 => sign::<Shake256>(heap, setting, key, message, wanted.len())?,
         };
         Ok(signature.as_slice() == wanted.as_slice())
     }
 }
 
 impl Suite for Splits {
-    fn check(&mut self, heap: Global, block: &Block) -> anyhow::Result<Option<bool>> {
+    fn check(&mut self, block: &Block) -> anyhow::Result<Option<bool>> {
         if block.text("plan_sheet").is_some() {
-            self.setting = Some(Setting::of(heap, block)?);
+            self.setting = Some(Setting::of(block)?);
         }
         if block.text("key").is_some() {
-            self.deal(heap, block)?;
+            self.deal(block)?;
         }
         if block.text("message").is_some() {
-            self.message = Some(block.message(heap)?);
+            self.message = Some(block.message()?);
         }
         Ok(None)
     }
 
-    fn check_line(
-        &mut self,
-        heap: Global,
-        block: &Block,
-        name: &str,
-    ) -> anyhow::Result<Option<bool>> {
+    fn check_line(&mut self, block: &Block, name: &str) -> anyhow::Result<Option<bool>> {
         if name == "signature" {
-            return Ok(Some(self.signs(heap, block)?));
+            return Ok(Some(self.signs(block)?));
         }
-        let Some(setting) = &self.setting else {
-            return Err(anyhow!("a line stands before its plan"));
-        };
-        let Some(dealt) = &self.dealt else {
+        let setting = self
+            .setting
+            .as_ref()
+            .context("a line stands before its plan")?;
+        let Some((key, dealt)) = &self.dealt else {
             return Ok(None);
         };
+        let plan = &setting.plan;
         if name == "part_rows" {
-            let rows = rows_of_key(&setting.plan, self.key);
-            return Ok(Some(rows as u32 == block.number("part_rows")?));
+            return Ok(Some(rows_of_key(plan, *key) == block.number(name)? as usize));
         }
         if name == "members" {
-            let listed = block.numbers(heap, "members")?;
-            return Ok(Some(members_are(&setting.plan, self.key, &listed)));
+            return Ok(Some(members_are(plan, *key, &block.numbers(name)?)));
         }
-        match bytes_of_line(heap, &setting.plan, self.key, dealt, name)? {
-            Some(bytes) => Ok(Some(bytes.as_slice() == block.bytes(heap, name)?.as_slice())),
+        match bytes_of_line(block.heap(), plan, *key, dealt, name)? {
+            Some(bytes) => Ok(Some(bytes.as_slice() == block.bytes(name)?.as_slice())),
             None => Ok(None),
         }
     }

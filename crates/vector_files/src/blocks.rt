@@ -1,6 +1,6 @@
 // The blocks of a vector file: lines of the form `name = value`, ended by a blank line.
 use crate::hex;
-use anyhow::anyhow;
+use anyhow::{Context, anyhow, ensure};
 use std::alloc::{AllocError, Global};
 
 // A line of a block, and its number, from 1.
@@ -21,27 +21,23 @@ impl<'t> Field<'t> {
     }
 }
 
+// The lines of a block, and the memory that its values are read into.
 #[derive(Drop)]
 pub struct Block<'t> {
+    heap: Global,
     fields: Vec<Field<'t>>,
-    first_line: usize,
 }
 
 impl<'t> Block<'t> {
     pub fn new(heap: Global) -> Block<'t> {
         Block {
+            heap,
             fields: Vec::new(heap),
-            first_line: 0,
         }
     }
 
-    pub fn is_empty(&self) -> bool {
-        self.fields.is_empty()
-    }
-
-    // The number of its first line, from 1.
-    pub fn first_line(&self) -> usize {
-        self.first_line
+    pub fn heap(&self) -> Global {
+        self.heap
     }
 
     pub fn fields(&self) -> &[Field<'t>] {
@@ -50,35 +46,24 @@ impl<'t> Block<'t> {
 
     // Takes in a line; one without an equals sign is passed over.
     pub fn add(&mut self, line: &'t str, number: usize) -> Result<(), AllocError> {
-        let Some((name, value)) = line.split_once('=') else {
-            return Ok(());
-        };
-        if self.fields.is_empty() {
-            self.first_line = number;
+        if let Some((name, value)) = line.split_once('=') {
+            self.fields.push(Field {
+                name: name.trim(),
+                value: value.trim(),
+                line: number,
+            })?;
         }
-        self.fields.push(Field {
-            name: name.trim(),
-            value: value.trim(),
-            line: number,
-        })?;
         Ok(())
     }
 
     pub fn text(&self, name: &str) -> Option<&'t str> {
-        for field in self.fields.iter() {
-            if field.name == name {
-                return Some(field.value);
-            }
-        }
-        None
+        let field = self.fields.iter().find(|field| field.name == name)?;
+        Some(field.value)
     }
 
     // A value that the block has to have.
     pub fn required(&self, name: &str) -> anyhow::Result<&'t str> {
-        match self.text(name) {
-            Some(text) => Ok(text),
-            None => Err(anyhow!("a vector lacks a value")),
-        }
+        self.text(name).context("a vector lacks a value")
     }
 
     pub fn number(&self, name: &str) -> anyhow::Result<u32> {
@@ -86,8 +71,8 @@ impl<'t> Block<'t> {
     }
 
     // Numbers with a space between each two.
-    pub fn numbers(&self, heap: Global, name: &str) -> anyhow::Result<Vec<u32>> {
-        let mut numbers = Vec::new(heap);
+    pub fn numbers(&self, name: &str) -> anyhow::Result<Vec<u32>> {
+        let mut numbers = Vec::new(self.heap);
         for word in self.required(name)?.split_whitespace() {
             numbers.push(word.parse::<u32>()?)?;
         }
@@ -95,45 +80,26 @@ impl<'t> Block<'t> {
     }
 
     // The message: given in hexadecimal, or as one byte and how often it comes.
-    pub fn message(&self, heap: Global) -> anyhow::Result<Vec<u8>> {
+    pub fn message(&self) -> anyhow::Result<Vec<u8>> {
         if self.text("message").is_some() {
-            return self.bytes(heap, "message");
+            return self.bytes("message");
         }
-        let fill = self.bytes(heap, "message_fill")?;
-        let length = self.number("message_length")?;
-        let mut message = Vec::new(heap);
-        for _ in 0..length {
-            message.push(fill.first().copied().unwrap_or(0))?;
-        }
-        Ok(message)
+        let fill = self.bytes("message_fill")?;
+        let byte = fill.first().copied().unwrap_or(0);
+        let length = self.number("message_length")? as usize;
+        Ok(vec![in self.heap; byte; length]?)
     }
 
-    // Exactly 32 bytes.
-    pub fn row(&self, heap: Global, name: &str) -> anyhow::Result<[u8; 32]> {
-        let bytes = self.bytes(heap, name)?;
-        let mut row = [0u8; 32];
-        if bytes.len() != 32 {
-            return Err(anyhow!("a value has not 32 bytes"));
-        }
-        row.copy_from_slice(&bytes);
-        Ok(row)
+    // Exactly N bytes.
+    pub fn array<const N: usize>(&self, name: &str) -> anyhow::Result<[u8; N]> {
+        let bytes = self.bytes(name)?;
+        ensure!(bytes.len() == N, "a value has not {N} bytes");
+        let mut array = [0; N];
+        array.copy_from_slice(&bytes);
+        Ok(array)
     }
 
-    // Exactly 16 bytes.
-    pub fn half_row(&self, heap: Global, name: &str) -> anyhow::Result<[u8; 16]> {
-        let bytes = self.bytes(heap, name)?;
-        let mut half = [0u8; 16];
-        if bytes.len() != 16 {
-            return Err(anyhow!("a value has not 16 bytes"));
-        }
-        half.copy_from_slice(&bytes);
-        Ok(half)
-    }
-
-    pub fn bytes(&self, heap: Global, name: &str) -> anyhow::Result<Vec<u8>> {
-        match hex::decode(heap, self.required(name)?)? {
-            Some(bytes) => Ok(bytes),
-            None => Err(anyhow!("a value is not hexadecimal")),
-        }
+    pub fn bytes(&self, name: &str) -> anyhow::Result<Vec<u8>> {
+        hex::decode(self.heap, self.required(name)?)?.context("a value is not hexadecimal")
     }
 }

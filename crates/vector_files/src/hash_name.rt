@@ -1,19 +1,40 @@
 // The two hashes, by the names that vectors give them.
 use crate::blocks::Block;
-use anyhow::anyhow;
+use std::error::Error;
+use std::fmt;
 
-#[derive(Clone, Copy)]
+#[derive(Clone, Copy, PartialEq, Eq, Debug)]
 pub enum HashName {
     Sha256,
     Shake256,
 }
 
-impl HashName {
-    pub fn of(block: &Block) -> anyhow::Result<HashName> {
-        match block.required("hash")? {
+// A name of no hash that is known.
+#[derive(Clone, Copy, PartialEq, Eq, Debug)]
+pub struct UnknownHash;
+
+impl fmt::Display for UnknownHash {
+    fn fmt<W: fmt::Write>(&self, f: &mut fmt::Formatter<W>) -> fmt::Result {
+        f.write_str("a vector names an unknown hash")
+    }
+}
+
+impl Error for UnknownHash {}
+
+impl TryFrom<&str> for HashName {
+    type Error = UnknownHash;
+
+    fn try_from(name: &str) -> Result<HashName, UnknownHash> {
+        match name {
             "sha256" => Ok(HashName::Sha256),
             "shake256" => Ok(HashName::Shake256),
-            _ => Err(anyhow!("a vector names an unknown hash")),
+            _ => Err(UnknownHash),
         }
+    }
+}
+
+impl HashName {
+    pub fn of(block: &Block) -> anyhow::Result<HashName> {
+        Ok(HashName::try_from(block.required("hash")?)?)
     }
 }

@@ -1,4 +1,4 @@
-// Bytes in hexadecimal.
+// Bytes in hexadecimal, as vectors have it: in small letters alone.
 use std::alloc::{AllocError, Global};
 
 fn digit(character: u8) -> Option<u8> {
@@ -9,24 +9,21 @@ fn digit(character: u8) -> Option<u8> {
     }
 }
 
-// The bytes that a text writes, or none where it is not pairs of hexadecimal digits.
+fn byte(pair: &[u8]) -> Option<u8> {
+    let [high, low] = pair else {
+        return None;
+    };
+    Some((digit(*high)? & 15) << 4 | digit(*low)?)
+}
+
+// The bytes that a text writes, or none where it is not pairs of hexadecimal digits. (The library's `hex` takes capitals too.)
 pub fn decode(heap: Global, text: &str) -> Result<Option<Vec<u8>>, AllocError> {
     let mut bytes = Vec::new(heap);
-    let mut high = None;
-    for character in text.bytes() {
-        let Some(value) = digit(character) else {
+    for pair in text.as_bytes().chunks(2) {
+        let Some(byte) = byte(pair) else {
             return Ok(None);
         };
-        match high {
-            None => high = Some(value),
-            Some(first) => {
-                bytes.push((first & 15) << 4 | value)?;
-                high = None;
-            }
-        }
-    }
-    if high.is_some() {
-        return Ok(None);
+        bytes.push(byte)?;
     }
     Ok(Some(bytes))
 }

@@ -1,22 +1,21 @@
 // Digests and message authentication codes.
-use anyhow::anyhow;
+use anyhow::ensure;
 use hash::hmac::hmac;
 use sha256::sha256;
 use shake256::shake256;
-use std::alloc::Global;
 use vector_files::{Block, HashName, Suite};
 
 #[derive(Drop)]
 pub(crate) struct Digests;
 
 impl Suite for Digests {
-    fn check(&mut self, heap: Global, block: &Block) -> anyhow::Result<Option<bool>> {
-        let message = block.message(heap)?;
+    fn check(&mut self, block: &Block) -> anyhow::Result<Option<bool>> {
+        let message = block.message()?;
         let digest = match HashName::of(block)? {
             HashName::Sha256 => sha256(&message),
             HashName::Shake256 => shake256(&message),
         };
-        Ok(Some(digest == block.row(heap, "digest")?))
+        Ok(Some(digest == block.array::<32>("digest")?))
     }
 }
 
@@ -25,22 +24,23 @@ pub(crate) struct Macs;
 
 // A key of fewer bytes is filled up with zeros; a longer one is outside of what is offered. Some codes are given by their front alone.
 impl Suite for Macs {
-    fn check(&mut self, heap: Global, block: &Block) -> anyhow::Result<Option<bool>> {
-        let given = block.bytes(heap, "key")?;
+    fn check(&mut self, block: &Block) -> anyhow::Result<Option<bool>> {
+        let given = block.bytes("key")?;
         if given.len() > 32 {
             return Ok(None);
         }
         let mut key = [0u8; 32];
         key[0..given.len()].copy_from_slice(&given);
-        let message = block.message(heap)?;
+        let message = block.message()?;
         let code = match HashName::of(block)? {
             HashName::Sha256 => hmac::<sha256::Hasher>(&key, &message),
             HashName::Shake256 => hmac::<shake256::Hasher>(&key, &message),
         };
-        let mac = block.bytes(heap, "mac")?;
-        if mac.is_empty() || mac.len() > 32 {
-            return Err(anyhow!("a code has no bytes, or too many"));
-        }
+        let mac = block.bytes("mac")?;
+        ensure!(
+            !mac.is_empty() && mac.len() <= 32,
+            "a code has no bytes, or too many"
+        );
         Ok(Some(&code[0..mac.len()] == mac.as_slice()))
     }
 }

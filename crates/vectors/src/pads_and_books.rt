@@ -1,11 +1,11 @@
 // Pads and check pads, by HMAC and of books.
 use crate::signatures::{height_of, width_of};
-use anyhow::anyhow;
+use anyhow::Context;
 use pads::{Book, HmacPads, Label, Pads};
+use rows::Row;
 use sha256::{Hasher as Sha256, sha256};
 use shake256::Hasher as Shake256;
 use sizes::{Height, Width};
-use std::alloc::Global;
 use vector_files::{Block, HashName, Suite};
 
 fn label_of(block: &Block) -> anyhow::Result<Label> {
@@ -18,14 +18,14 @@ fn label_of(block: &Block) -> anyhow::Result<Label> {
 }
 
 // Whether a source answers as a block says: with a check pad if it has a prefix, otherwise with a pad, asked for alone and among eight.
-fn answers<P: Pads>(source: &P, heap: Global, block: &Block) -> anyhow::Result<bool> {
+fn answers<P: Pads>(source: &P, block: &Block) -> anyhow::Result<bool> {
     if block.text("prefix").is_some() {
-        let prefix = block.row(heap, "prefix")?;
+        let prefix = block.array("prefix")?;
         let check = source.check_pad(block.number("key")?, &prefix);
-        return Ok(check == block.row(heap, "check_pad")?);
+        return Ok(check == block.array::<32>("check_pad")?);
     }
     let label = label_of(block)?;
-    let pad = block.row(heap, "pad")?;
+    let pad: Row = block.array("pad")?;
     let eight = source.pads(&[label; 8]);
     Ok(source.pad(label) == pad && eight[7] == pad)
 }
@@ -34,91 +34,86 @@ fn answers<P: Pads>(source: &P, heap: Global, block: &Block) -> anyhow::Result<b
 pub(crate) struct HmacSources;
 
 impl Suite for HmacSources {
-    fn check(&mut self, heap: Global, block: &Block) -> anyhow::Result<Option<bool>> {
-        let key = block.row(heap, "key_bytes")?;
+    fn check(&mut self, block: &Block) -> anyhow::Result<Option<bool>> {
+        let key = block.array("key_bytes")?;
         let answered = match HashName::of(block)? {
-            HashName::Sha256 => {
-                let source: HmacPads<Sha256> = HmacPads::new(&key);
-                answers(&source, heap, block)?
-            }
-            HashName::Shake256 => {
-                let source: HmacPads<Shake256> = HmacPads::new(&key);
-                answers(&source, heap, block)?
-            }
+            HashName::Sha256 => answers(&HmacPads::<Sha256>::new(&key), block)?,
+            HashName::Shake256 => answers(&HmacPads::<Shake256>::new(&key), block)?,
         };
         if block.text("prefix").is_some() {
             return Ok(Some(answered));
         }
-        let label = block.bytes(heap, "label")?;
+        let label = block.bytes("label")?;
         Ok(Some(answered && &label_of(block)?.bytes()[..] == label.as_slice()))
     }
 }
 
-// The book that the questions behind it are put to.
+// A book with all that it stands on.
 #[derive(Drop)]
-pub(crate) struct Books {
-    bytes: Option<Vec<u8>>,
+struct OwnedBook {
+    bytes: Vec<u8>,
     first: u32,
     height: Height,
     width: Width,
-    check: [u8; 32],
+    check: Row,
+}
+
+impl OwnedBook {
+    fn of(block: &Block) -> anyhow::Result<OwnedBook> {
+        let salt = block.bytes("salt")?;
+        Ok(OwnedBook {
+            bytes: rows_of_book(block, block.number("book_bytes")?, &salt)?,
+            first: block.number("first_key")?,
+            height: height_of(block)?,
+            width: width_of(block)?,
+            check: block.array("check_key")?,
+        })
+    }
+
+    fn book(&self) -> Book<'_> {
+        Book::new(&self.bytes, self.first, self.height, self.width, &self.check)
+    }
+
+    // Whether it holds just the keys that are listed.
+    fn holds_just(&self, held: &[u32]) -> bool {
+        let book = self.book();
+        (0..2 * self.height.keys()).all(|key| book.holds(key) == held.contains(&key))
+            && !book.holds(u32::MAX)
+    }
 }
 
 // As many bytes of rows as asked for: row r is the digest of r in four bytes and the salt.
-fn rows_of_book(heap: Global, length: u32, salt: &[u8]) -> anyhow::Result<Vec<u8>> {
-    let mut bytes = Vec::new(heap);
+fn rows_of_book(block: &Block, length: u32, salt: &[u8]) -> anyhow::Result<Vec<u8>> {
+    let mut bytes = Vec::new(block.heap());
     for number in 0..length / 32 + 1 {
-        let mut text = Vec::new(heap);
+        let mut text = Vec::new(block.heap());
         text.extend_from_slice(&number.to_be_bytes())?;
         text.extend_from_slice(salt)?;
-        for byte in sha256(&text).iter() {
-            if bytes.len() < length as usize {
-                bytes.push(*byte)?;
-            }
-        }
+        bytes.extend_from_slice(&sha256(&text))?;
     }
+    bytes.truncate(length as usize);
     Ok(bytes)
 }
 
-impl Books {
-    pub(crate) fn new() -> Books {
-        Books {
-            bytes: None,
-            first: 0,
-            height: Height::Five,
-            width: Width::One,
-            check: [0; 32],
-        }
-    }
-
-    // Takes up a new book; the case is which keys it holds.
-    fn open(&mut self, heap: Global, block: &Block) -> anyhow::Result<bool> {
-        self.first = block.number("first_key")?;
-        self.height = height_of(block)?;
-        self.width = width_of(block)?;
-        self.check = block.row(heap, "check_key")?;
-        let salt = block.bytes(heap, "salt")?;
-        let bytes = rows_of_book(heap, block.number("book_bytes")?, &salt)?;
-        let held = block.numbers(heap, "keys_held")?;
-        let book = Book::new(&bytes, self.first, self.height, self.width, &self.check);
-        let mut right = !book.holds(u32::MAX);
-        for key in 0..2 * self.height.keys() {
-            right = right && book.holds(key) == held.contains(&key);
-        }
-        self.bytes = Some(bytes);
-        Ok(right)
-    }
+// The book that the questions behind it are put to.
+#[derive(Drop, Default)]
+pub(crate) struct Books {
+    book: Option<OwnedBook>,
 }
 
 impl Suite for Books {
-    fn check(&mut self, heap: Global, block: &Block) -> anyhow::Result<Option<bool>> {
+    // The case of a new book is which keys it holds.
+    fn check(&mut self, block: &Block) -> anyhow::Result<Option<bool>> {
         if block.text("book_bytes").is_some() {
-            return Ok(Some(self.open(heap, block)?));
+            let book = OwnedBook::of(block)?;
+            let right = book.holds_just(&block.numbers("keys_held")?);
+            self.book = Some(book);
+            return Ok(Some(right));
         }
-        let Some(bytes) = &self.bytes else {
-            return Err(anyhow!("a question comes before its book"));
-        };
-        let book = Book::new(bytes, self.first, self.height, self.width, &self.check);
-        Ok(Some(answers(&book, heap, block)?))
+        let book = self
+            .book
+            .as_ref()
+            .context("a question comes before its book")?;
+        Ok(Some(answers(&book.book(), block)?))
     }
 }
