@@ -4,7 +4,7 @@ ghost use Rattle.rows.specs.Bytes.{u8str, u16str, u32str};
 ghost use Rattle.lmots.specs.LmOts.{chain, digest, prefix, start};
 
 use hash::Hash;
-use rows::{Identifier, Row, Seed};
+use rows::{Identifier, Origin, Row};
 
 // One step of chain i of key q.
 fn step<H: Hash>(id: Identifier, q: u32, i: u16, j: u8, x: &Row) -> Row
@@ -32,17 +32,17 @@ pub(crate) fn walk<H: Hash>(id: Identifier, q: u32, i: u16, from: u8, to: u8, x:
 }
 
 // The start of a chain.
-pub(crate) fn chain_start<H: Hash>(id: Identifier, seed: Seed, q: u32, i: u16) -> Row
-    ensures { result ≡ start H.Hash.hashed id.bytes seed.bytes q i }
+pub(crate) fn chain_start<H: Hash>(origin: Origin, q: u32, i: u16) -> Row
+    ensures { result ≡ start H.Hash.hashed origin.id.bytes origin.seed.bytes q i }
 {
-    step::<H>(id, q, i, 0xff, &seed.bytes())
+    step::<H>(origin.id, q, i, 0xff, &origin.seed.bytes())
 }
 
 // The prefix C of key q.
-pub fn prefix_of<H: Hash>(id: Identifier, seed: Seed, q: u32) -> Row
-    ensures { result ≡ prefix H.Hash.hashed id.bytes seed.bytes q }
+pub fn prefix_of<H: Hash>(origin: Origin, q: u32) -> Row
+    ensures { result ≡ prefix H.Hash.hashed origin.id.bytes origin.seed.bytes q }
 {
-    chain_start::<H>(id, seed, q, 0xfffd)
+    chain_start::<H>(origin, q, 0xfffd)
 }
 
 // The digest of a message for key q, which is what is signed.
