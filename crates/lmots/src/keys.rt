@@ -1,28 +1,21 @@
 // One-time public keys: from a seed, eight at a time, and the candidate from a signature's rows.
 ghost use Rattle.std.specs.Prelude.{◌≡◌, ℕ, ◌+◌, ◌-◌, ◌*◌, ◌%◌, ◌^◌, ◌<◌, ◌≤◌, [], ◌++◌, length, MatchResult, ◌≢◌, slice_index_or};
-ghost use Rattle.rows.specs.Bytes.{u16str, u32str, row_at, rows};
+ghost use Rattle.rows.specs.Bytes.{row_at, rows};
 ghost use Rattle.sizes.specs.Sizes.{bits};
 ghost use Rattle.lmots.specs.LmOts.{X, candidate_key, one_time_key, p, public_key};
 ghost use Rattle.lmots.specs.declared.refusal.Refusal.TheVariants.{Buffer};
 
 use crate::digits::{chain_count, digit_at, last_position, with_checksum};
 use crate::lanes::{places_of_keys, rows_at};
+use crate::opening::opened;
 use crate::refusal::Refusal;
 use crate::single::walk;
 use hash::Hash;
 use rows::{Identifier, Origin, Row, row_at};
 use sizes::Width;
 
-// The hash of key q's chain ends, begun.
-fn opened<H: Hash>(id: Identifier, q: u32) -> H
-    ensures { H.Hash.state result ≡ H.Hash.fed H.Hash.first (id.bytes ++ u32str q ++ u16str 0x8080) }
-{
-    let mut key = H::start();
-    key.feed(&id.bytes());
-    key.feed(&q.to_be_bytes());
-    key.feed(&[0x80, 0x80]);
-    key
-}
+// The mark in front of a key's chain ends.
+const D_PBLK: u16 = 0x8080;
 
 // The ends of all chains of eight keys in a row, by chain and key.
 fn chain_ends<H: Hash>(origin: Origin, width: Width, first: u32) -> [[Row; 8]; 265]
@@ -49,7 +42,7 @@ fn key_of_lane<H: Hash>(
     requires lane { l < 8 }
     ensures { result ≡ one_time_key H.Hash.hashed id.bytes q (rows count (λ i. slice_index_or (slice_index_or ends.now i []) l [])) }
 {
-    let mut key = opened::<H>(id, q);
+    let mut key = opened::<H>(id, q, D_PBLK);
     for i in 0..count {
         key.feed(&ends[i][l]);
     }
@@ -87,7 +80,7 @@ pub fn candidate_key<H: Hash>(
     }
     let top = last_position(width);
     let digits = with_checksum(width, digest);
-    let mut key = opened::<H>(id, q);
+    let mut key = opened::<H>(id, q, D_PBLK);
     for i in 0..count {
         let y = row_at(rows, 32 * i);
         let end = walk::<H>(id, q, i as u16, digit_at(width, &digits, i), top, &y);

@@ -3,6 +3,7 @@ ghost use Rattle.std.specs.Prelude.{◌≡◌, ◌-◌, ◌≤◌, ◌++◌, len
 ghost use Rattle.rows.specs.Bytes.{u8str, u16str, u32str};
 ghost use Rattle.lmots.specs.LmOts.{chain, digest, prefix, start};
 
+use crate::opening::opened;
 use hash::Hash;
 use rows::{Identifier, Origin, Row};
 
@@ -10,10 +11,7 @@ use rows::{Identifier, Origin, Row};
 fn step<H: Hash>(id: Identifier, q: u32, i: u16, j: u8, x: &Row) -> Row
     ensures { result ≡ H.Hash.hashed (id.bytes ++ u32str q ++ u16str i ++ u8str j ++ x.now) }
 {
-    let mut h = H::start();
-    h.feed(&id.bytes());
-    h.feed(&q.to_be_bytes());
-    h.feed(&i.to_be_bytes());
+    let mut h = opened::<H>(id, q, i);
     h.feed(&[j]);
     h.feed(x);
     h.close()
@@ -50,10 +48,7 @@ pub fn digest_of<H: Hash>(id: Identifier, q: u32, prefix: &Row, message: &[u8]) 
     ensures value { result ≡ digest H.Hash.hashed id.bytes q prefix.now message.now }
     ensures named { length id.bytes ≡ 16 }
 {
-    let mut h = H::start();
-    h.feed(&id.bytes());
-    h.feed(&q.to_be_bytes());
-    h.feed(&[0x81, 0x81]);
+    let mut h = opened::<H>(id, q, 0x8181);
     h.feed(prefix);
     h.feed(message);
     h.close()
