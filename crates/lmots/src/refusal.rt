@@ -1,6 +1,6 @@
 // What a call of this crate can refuse.
 ghost use Rattle.std.specs.Prelude.{◌≡◌};
-ghost use Rattle.lmots.specs.Numbers.{number_of};
+ghost use Rattle.lmots.specs.Refusals.{number_of};
 
 #[derive(Clone, Copy, PartialEq, Eq, Debug)]
 pub enum Refusal {
