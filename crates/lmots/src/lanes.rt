@@ -4,7 +4,7 @@ ghost use Rattle.rows.specs.Bytes.{u8str, u16str, u32str};
 ghost use Rattle.lmots.specs.LmOts.{X, chain, start};
 
 use hash::Hash;
-use rows::{Identifier, Row, Seed, put};
+use rows::{Identifier, Origin, Row, Seed, put};
 
 // Which chain of which key: the bytes of the key's number and of the chain's.
 pub(crate) type Place = [u8; 6];
@@ -96,15 +96,14 @@ pub(crate) fn starts<H: Hash>(head: &H, places: &[Place; 8], seed: Seed) -> [Row
 
 // The rows at one position of eight chains.
 pub(crate) fn rows_at<H: Hash>(
-    id: Identifier,
-    seed: Seed,
+    origin: Origin,
     places: &[Place; 8],
     position: u8,
 ) -> [Row; 8]
     ensures { (l q i : ℕ) → l < 8 → slice_index_or places.now l [] ≡ u32str q ++ u16str i →
-        slice_index_or result l [] ≡ X H.Hash.hashed id.bytes seed.bytes q i position }
+        slice_index_or result l [] ≡ X H.Hash.hashed origin.id.bytes origin.seed.bytes q i position }
 {
-    let head = behind::<H>(id);
-    let first = starts::<H>(&head, places, seed);
+    let head = behind::<H>(origin.id);
+    let first = starts::<H>(&head, places, origin.seed);
     walk_lanes::<H>(&head, places, position, &first)
 }

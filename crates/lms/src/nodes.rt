@@ -4,16 +4,14 @@ ghost use Rattle.rows.specs.Bytes.{row_at};
 ghost use Rattle.lms.specs.Lms.{climbed, inner_node, leaf_node};
 
 use hash::Hash;
+use lmots::opened;
 use rows::{Identifier, Row, row_at};
 
 // The node of a leaf, from its one-time public key.
 pub(crate) fn leaf<H: Hash>(id: Identifier, r: u32, key: &Row) -> Row
     ensures { result ≡ leaf_node H.Hash.hashed id.bytes r key.now }
 {
-    let mut h = H::start();
-    h.feed(&id.bytes());
-    h.feed(&r.to_be_bytes());
-    h.feed(&[0x82, 0x82]);
+    let mut h = opened::<H>(id, r, 0x8282);
     h.feed(key);
     h.close()
 }
@@ -22,10 +20,7 @@ pub(crate) fn leaf<H: Hash>(id: Identifier, r: u32, key: &Row) -> Row
 pub(crate) fn inner<H: Hash>(id: Identifier, r: u32, left: &Row, right: &Row) -> Row
     ensures { result ≡ inner_node H.Hash.hashed id.bytes r left.now right.now }
 {
-    let mut h = H::start();
-    h.feed(&id.bytes());
-    h.feed(&r.to_be_bytes());
-    h.feed(&[0x83, 0x83]);
+    let mut h = opened::<H>(id, r, 0x8383);
     h.feed(left);
     h.feed(right);
     h.close()

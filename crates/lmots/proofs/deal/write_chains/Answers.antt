@@ -48,7 +48,7 @@ loop-j-preserved g c = (
 pub returns : goal.returns
 returns g c =
     let a = c.args in
-    let I = a.id.bytes in
+    let I = a.origin.id.bytes in
     let s = c.behind-head.ensures in
     record {
       new = λ l j h o z.

@@ -17,7 +17,7 @@ loop-b-preserved g c i j h o z =
           let e : f + (i - f) ≡ i = omega arith in
           ap (λ n. row_at (n * 2 ^ bits a.width + j) c.write_chains.new.out) (sym e)
           ∙ c.write_chains.ensures.new (i - f) j (omega arith) (omega arith) z
-          ∙ ap (λ n. X g.H.Hash.hashed a.id.bytes a.seed.bytes a.q n j) e
+          ∙ ap (λ n. X g.H.Hash.hashed a.origin.id.bytes a.origin.seed.bytes a.q n j) e
     ]
 
 pub returns : goal.returns
@@ -27,6 +27,6 @@ returns g c =
     let e = ap₂ (λ m n. 32 * (m * n)) c.chain_count-count.ensures.value c.position_count.ensures.value in
     let l : length a.out.now ≡ 32 * (p w * 2 ^ w) = omega arith in (
       l,
-      cells_whole (2 ^ w) (p w) (X g.H.Hash.hashed a.id.bytes a.seed.bytes a.q) c.loop-b.out (pow_pos w) (c.loop-b.auto.out ∙ l)
+      cells_whole (2 ^ w) (p w) (X g.H.Hash.hashed a.origin.id.bytes a.origin.seed.bytes a.q) c.loop-b.out (pow_pos w) (c.loop-b.auto.out ∙ l)
           (λ i j h z. c.loop-b.invariant i j (omega arith) h z),
     )

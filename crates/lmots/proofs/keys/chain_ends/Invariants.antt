@@ -6,4 +6,4 @@ abbrev pub invariant-loop-i : goal.invariant-loop-i
 invariant-loop-i g l =
     (length l.ends ≡ 265)
     × ((i : ℕ) → i < l.i → (k : ℕ) → k < 8 →
-    get_or (get_or l.ends i []) k [] ≡ X g.H.Hash.hashed l.id.bytes l.seed.bytes ((l.first + k) % 2 ^ 32) i l.top)
+    get_or (get_or l.ends i []) k [] ≡ X g.H.Hash.hashed l.origin.id.bytes l.origin.seed.bytes ((l.first + k) % 2 ^ 32) i l.top)

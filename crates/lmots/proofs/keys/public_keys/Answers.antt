@@ -11,7 +11,7 @@ loop-l-preserved g c =
     let a = c.args in (
       search rules,
       fill_more
-          (λ k x. x ≡ one_time_key g.H.Hash.hashed a.id.bytes ((a.first + k) % 2 ^ 32) (rows c.chain_count-count.result (λ i. get_or (get_or c.chain_ends-ends.result i []) k [])))
+          (λ k x. x ≡ one_time_key g.H.Hash.hashed a.origin.id.bytes ((a.first + k) % 2 ^ 32) (rows c.chain_count-count.result (λ i. get_or (get_or c.chain_ends-ends.result i []) k [])))
           c.loop-l.keys c.loop-l.l c.key_of_lane.result [] (omega arith) c.loop-l.invariant.1 c.key_of_lane.ensures,
     )
 
@@ -22,6 +22,6 @@ returns g c k h =
     let q = (a.first + k) % 2 ^ 32 in
     let f = λ (i : ℕ). get_or (get_or c.chain_ends-ends.result i []) k [] in
     c.loop-l.invariant.1 k (omega arith)
-    ∙ ap (one_time_key g.H.Hash.hashed a.id.bytes q)
+    ∙ ap (one_time_key g.H.Hash.hashed a.origin.id.bytes q)
     (ap (λ n. rows n f) c.chain_count-count.ensures.value
-    ∙ rows_same (p w) f (λ i. X g.H.Hash.hashed a.id.bytes a.seed.bytes q i (2 ^ w - 1)) (λ i o. c.chain_ends-ends.ensures i k o h))
+    ∙ rows_same (p w) f (λ i. X g.H.Hash.hashed a.origin.id.bytes a.origin.seed.bytes q i (2 ^ w - 1)) (λ i o. c.chain_ends-ends.ensures i k o h))

@@ -11,7 +11,7 @@ pub loop-b-preserved : goal.loop-b-preserved
 loop-b-preserved g c q h =
     let a = c.args in
     let H = g.H.Hash.hashed in
-    let P = public_key H a.id.bytes a.seed.bytes (bits a.width) in
+    let P = public_key H a.origin.id.bytes a.origin.seed.bytes (bits a.width) in
     let first = c.keys-first.result in
     let b = c.loop-b.b in
     elim (cases_lt q (8 * b)) [
@@ -22,7 +22,7 @@ loop-b-preserved g c q h =
           let d : 8 * b + k ≡ q = omega arith in
           let small : 8 * b + k < 2 ^ 32 = omega arith in
           ap (λ n. get_or c.fill_eight.new.nodes n []) (sym e) ∙ c.fill_eight.ensures.new k (omega arith)
-          ∙ ap₂ (leaf_node H a.id.bytes) e (c.public_keys-keys.ensures k (omega arith) ∙ ap P (mod-eq_of_lt small ∙ d))
+          ∙ ap₂ (leaf_node H a.origin.id.bytes) e (c.public_keys-keys.ensures k (omega arith) ∙ ap P (mod-eq_of_lt small ∙ d))
     ]
 
 pub returns : goal.returns
@@ -30,9 +30,9 @@ returns g c =
     let a = c.args in
     let H = g.H.Hash.hashed in
     let h = levels a.height in
-    let P = public_key H a.id.bytes a.seed.bytes (bits a.width) in
+    let P = public_key H a.origin.id.bytes a.origin.seed.bytes (bits a.width) in
     let e : c.keys-first.result ≡ 2 ^ h = c.keys-first.ensures in
-    leaves_filled H a.id.bytes a.seed.bytes h (bits a.width) c.loop-b.nodes
+    leaves_filled H a.origin.id.bytes a.origin.seed.bytes h (bits a.width) c.loop-b.nodes
     (λ q l.
     let z = eights a.height in
-    ap (λ n. get_or c.loop-b.nodes (n + q) []) (sym e) ∙ c.loop-b.invariant q (omega arith) ∙ ap (λ n. leaf_node H a.id.bytes (n + q) (P q)) e)
+    ap (λ n. get_or c.loop-b.nodes (n + q) []) (sym e) ∙ c.loop-b.invariant q (omega arith) ∙ ap (λ n. leaf_node H a.origin.id.bytes (n + q) (P q)) e)

@@ -7,4 +7,4 @@ use Rattle.lms.proofs.growing.fill_leaves.Given as goal
 abbrev pub invariant-loop-b : goal.invariant-loop-b
 invariant-loop-b g l =
     (q : ℕ) → q < 8 * l.b →
-    get_or l.nodes (l.first + q) [] ≡ leaf_node g.H.Hash.hashed l.id.bytes (l.first + q) (public_key g.H.Hash.hashed l.id.bytes l.seed.bytes (bits l.width) q)
+    get_or l.nodes (l.first + q) [] ≡ leaf_node g.H.Hash.hashed l.origin.id.bytes (l.first + q) (public_key g.H.Hash.hashed l.origin.id.bytes l.origin.seed.bytes (bits l.width) q)

@@ -4,5 +4,5 @@ use Rattle.lmots.specs.declared.refusal.Refusal.{Refusal}
 use Rattle.lmots.specs.declared.refusal.Refusal.TheVariants.{Buffer}
 
 -- a buffer of a wrong length
-abbrev pub number : Refusal → ℕ
-number Buffer = 20
+abbrev pub number_of : Refusal → ℕ
+number_of Buffer = 20
