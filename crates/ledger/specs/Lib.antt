@@ -2,5 +2,4 @@ pub mod Standing
 pub mod Refusals
 pub mod Spend
 pub mod Marks
-pub mod Choices
 pub mod Lowest

@@ -8,10 +8,5 @@ use crate::interface::Ledger;
 pub fn next_free<L: Ledger>(ledger: &L, first: u32, end: u32) -> Option<u32>
     ensures { Lowest (λ k. (L.Ledger.standing ledger.now).spent k ≡ false) first end result }
 {
-    for key in first..end {
-        if !ledger.spent(key) {
-            return Some(key);
-        }
-    }
-    None
+    (first..end).find(|key| !ledger.spent(*key))
 }

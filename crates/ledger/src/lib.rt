@@ -9,7 +9,6 @@ mod mirror;
 mod refusal;
 
 pub use bitmap::Bitmap;
-pub use choice::Choice;
 pub use free::next_free;
 pub use interface::Ledger;
 pub use mirror::Mirror;

@@ -1,4 +1,3 @@
 pub mod Labels
 pub mod Source
-pub mod Choices
 pub mod Books

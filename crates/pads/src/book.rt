@@ -7,12 +7,12 @@ ghost use Rattle.sha256.specs.State.{fed, closed};
 ghost use Rattle.sha256.specs.View.{viewed};
 ghost use Rattle.lms.specs.Scheme.{components, positions};
 ghost use Rattle.pads.specs.Labels.{check_bytes};
-ghost use Rattle.pads.specs.Source.{mac_of};
+ghost use Rattle.pads.specs.Source.{mac_under};
 ghost use Rattle.pads.specs.Books.{rows_of_key, row_of, of_book};
 
 use crate::hmac_pads::HmacPads;
 use crate::interface::Pads;
-use crate::label::Label;
+use crate::label::{CHAIN, CHECK_ROW, Label, PATH, PREFIX};
 use lms::scheme;
 use rows::{Row, row_at};
 use sha256::Hasher;
@@ -37,7 +37,7 @@ impl<'a> Book<'a> {
         check: &[u8; 32],
     ) -> Book<'a>
         ensures parts { (result.bytes.now ≡ bytes.now) × (result.first ≡ first) × (result.height ≡ height) × (result.width ≡ width) }
-        ensures checks { (k : ℕ) (prefix : List ℕ) → mac_of fed closed (viewed result.check.key.inner) (viewed result.check.key.outer) (check_bytes k prefix) ≡ hmac_of standard 64 check.now (check_bytes k prefix) }
+        ensures checks { (k : ℕ) (prefix : List ℕ) → mac_under viewed fed closed result.check.key (check_bytes k prefix) ≡ hmac_of standard 64 check.now (check_bytes k prefix) }
     {
         Book {
             bytes,
@@ -65,10 +65,10 @@ impl<'a> Book<'a> {
         let i = label.i as usize;
         let j = label.j as usize;
         match label.kind {
-            4 if i == 0 && j == 0 => Some(0),
-            5 if i < 8 && j == 0 => Some(1 + i),
-            1 if i < levels && j == 0 => Some(9 + i),
-            2 if i < scheme::components(self.width) && j < positions => Some(
+            PREFIX if i == 0 && j == 0 => Some(0),
+            CHECK_ROW if i < 8 && j == 0 => Some(1 + i),
+            PATH if i < levels && j == 0 => Some(9 + i),
+            CHAIN if i < scheme::components(self.width) && j < positions => Some(
                 9 + levels + positions * i + j,
             ),
             _ => None,
@@ -77,7 +77,7 @@ impl<'a> Book<'a> {
 }
 
 impl Pads for Book<'_> {
-    ghost source = { λ b. of_book (levels b.height) (bits b.width) b.first b.bytes.now (mac_of fed closed (viewed b.check.key.inner) (viewed b.check.key.outer)) };
+    ghost source = { λ b. of_book (levels b.height) (bits b.width) b.first b.bytes.now (mac_under viewed fed closed b.check.key) };
 
     fn holds(&self, key: u32) -> bool {
         self.first <= key

@@ -2,7 +2,7 @@
 ghost use Rattle.std.specs.Prelude.{◌≡◌, ℕ, ◌<◌, List, [], take, slice_index_or};
 ghost use Rattle.hash.specs.Rfc2104.{hmac_of};
 ghost use Rattle.pads.specs.Labels.{label_bytes, check_bytes};
-ghost use Rattle.pads.specs.Source.{by_mac, mac_of};
+ghost use Rattle.pads.specs.Source.{by_mac, mac_under};
 ghost use Rattle.pads.specs.declared.label.Label.{Label as Name};
 
 use crate::interface::Pads;
@@ -19,8 +19,8 @@ pub struct HmacPads<H> {
 
 impl<H: Hash> HmacPads<H> {
     pub fn new(key: &[u8; 32]) -> HmacPads<H>
-        ensures pads { (label : Name) → mac_of H.Hash.fed H.Hash.closed (H.Hash.state result.key.inner) (H.Hash.state result.key.outer) (label_bytes label) ≡ hmac_of H.Hash.hashed H.Hash.block key.now (label_bytes label) }
-        ensures checks { (k : ℕ) (prefix : List ℕ) → mac_of H.Hash.fed H.Hash.closed (H.Hash.state result.key.inner) (H.Hash.state result.key.outer) (check_bytes k prefix) ≡ hmac_of H.Hash.hashed H.Hash.block key.now (check_bytes k prefix) }
+        ensures pads { (label : Name) → mac_under H.Hash.state H.Hash.fed H.Hash.closed result.key (label_bytes label) ≡ hmac_of H.Hash.hashed H.Hash.block key.now (label_bytes label) }
+        ensures checks { (k : ℕ) (prefix : List ℕ) → mac_under H.Hash.state H.Hash.fed H.Hash.closed result.key (check_bytes k prefix) ≡ hmac_of H.Hash.hashed H.Hash.block key.now (check_bytes k prefix) }
     {
         HmacPads {
             key: HmacKey::new(key),
@@ -29,8 +29,8 @@ impl<H: Hash> HmacPads<H> {
 }
 
 // The label at the front of a text.
-fn text_of(label: &Label) -> [u8; 64]
-    ensures { take 8 result ≡ label_bytes label.now }
+fn text_of(label: Label) -> [u8; 64]
+    ensures { take 8 result ≡ label_bytes label }
 {
     let mut text = [0u8; 64];
     text[0..8].copy_from_slice(&label.bytes());
@@ -40,15 +40,11 @@ fn text_of(label: &Label) -> [u8; 64]
 fn texts_of(labels: &[Label; 8]) -> [[u8; 64]; 8]
     ensures { (n : ℕ) (d : Name) → n < 8 → take 8 (slice_index_or result n []) ≡ label_bytes (slice_index_or labels.now n d) }
 {
-    let mut texts = [[0u8; 64]; 8];
-    for n in 0..8 {
-        texts[n] = text_of(&labels[n]);
-    }
-    texts
+    labels.map(text_of)
 }
 
 impl<H: Hash> Pads for HmacPads<H> {
-    ghost source = { λ p. by_mac (mac_of H.Hash.fed H.Hash.closed (H.Hash.state p.key.inner) (H.Hash.state p.key.outer)) };
+    ghost source = { λ p. by_mac (mac_under H.Hash.state H.Hash.fed H.Hash.closed p.key) };
 
     fn holds(&self, _key: u32) -> bool {
         true

@@ -24,10 +24,8 @@ pub trait Pads {
     fn pads(&self, labels: &[Label; 8]) -> [Row; 8]
         ensures { (n : ℕ) → n < 8 → slice_index_or result n [] ≡ (source self.now).pad (slice_index_or labels.now n nothing) }
     {
-        let mut rows = [[0u8; 32]; 8];
-        for n in 0..8 {
-            rows[n] = self.pad(labels[n]);
-        }
-        rows
+        labels.map(|label| -> Row
+            ensures { result ≡ (source self.entry.now).pad label }
+        { self.pad(label) })
     }
 }

@@ -4,7 +4,22 @@ ghost use Rattle.pads.specs.Labels.{label_bytes, check_bytes};
 
 use rows::{Row, put};
 
-// Kind 1 is level i of the path, 2 is position j of chain i, 4 is the prefix, and 5 is the check row of the member at position i.
+// Level i of the path.
+pub(crate) const PATH: u8 = 1;
+
+// Position j of chain i.
+pub(crate) const CHAIN: u8 = 2;
+
+// The prefix.
+pub(crate) const PREFIX: u8 = 4;
+
+// The check row of the member at position i.
+pub(crate) const CHECK_ROW: u8 = 5;
+
+// The check pad of a prefix.
+const CHECK_PAD: u8 = 10;
+
+// The kind is a byte and no enum, since any byte is a label's: HMAC is computed over it.
 #[derive(Clone, Copy, PartialEq, Eq, Debug)]
 pub struct Label {
     pub kind: u8,
@@ -18,7 +33,7 @@ impl Label {
         ensures { result ≡ record { kind = 1; key = key; i = level; j = 0 } }
     {
         Label {
-            kind: 1,
+            kind: PATH,
             key,
             i: level,
             j: 0,
@@ -29,7 +44,7 @@ impl Label {
         ensures { result ≡ record { kind = 2; key = key; i = chain; j = position } }
     {
         Label {
-            kind: 2,
+            kind: CHAIN,
             key,
             i: chain,
             j: position,
@@ -40,7 +55,7 @@ impl Label {
         ensures { result ≡ record { kind = 4; key = key; i = 0; j = 0 } }
     {
         Label {
-            kind: 4,
+            kind: PREFIX,
             key,
             i: 0,
             j: 0,
@@ -51,7 +66,7 @@ impl Label {
         ensures { result ≡ record { kind = 5; key = key; i = member; j = 0 } }
     {
         Label {
-            kind: 5,
+            kind: CHECK_ROW,
             key,
             i: member,
             j: 0,
@@ -62,11 +77,9 @@ impl Label {
     pub fn bytes(&self) -> [u8; 8]
         ensures { result ≡ label_bytes self.now }
     {
-        let key = self.key.to_be_bytes();
-        let i = self.i.to_be_bytes();
-        [
-            self.kind, key[0], key[1], key[2], key[3], i[0], i[1], self.j,
-        ]
+        let [k0, k1, k2, k3] = self.key.to_be_bytes();
+        let [i0, i1] = self.i.to_be_bytes();
+        [self.kind, k0, k1, k2, k3, i0, i1, self.j]
     }
 }
 
@@ -75,7 +88,7 @@ pub(crate) fn check_label(key: u32, prefix: &Row) -> [u8; 40]
     ensures { result ≡ check_bytes key prefix.now }
 {
     let label = Label {
-        kind: 10,
+        kind: CHECK_PAD,
         key,
         i: 0,
         j: 0,

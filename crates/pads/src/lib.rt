@@ -8,7 +8,6 @@ mod interface;
 mod label;
 
 pub use book::Book;
-pub use choice::Choice;
 pub use hmac_pads::HmacPads;
 pub use interface::Pads;
 pub use label::Label;
