@@ -4,6 +4,7 @@
 
 use anyhow::anyhow;
 use hash::Hash;
+use measuring::per_second;
 use sha256::Hasher as Sha256;
 use shake256::Hasher as Shake256;
 use sizes::Height;
@@ -28,13 +29,6 @@ struct Sizes {
     height: Height,
 }
 
-fn read_height(word: &str) -> anyhow::Result<Height> {
-    match Height::of(word.parse::<u32>()?) {
-        Some(height) => Ok(height),
-        None => Err(anyhow!("the height is 5 or 10")),
-    }
-}
-
 fn read_sizes(rt: &HostRuntime) -> anyhow::Result<Option<Sizes>> {
     let mut sizes = Sizes {
         pieces: 4,
@@ -47,7 +41,7 @@ fn read_sizes(rt: &HostRuntime) -> anyhow::Result<Option<Sizes>> {
             _ if word.as_str() == "--help" => return Ok(None),
             1 => sizes.pieces = word.as_str().parse::<u64>()?,
             2 => sizes.hashes = word.as_str().parse::<u64>()?,
-            3 => sizes.height = read_height(word.as_str())?,
+            3 => sizes.height = Height::try_from(word.as_str().parse::<u32>()?)?,
             _ => return Err(anyhow!("too many arguments: see bench --help")),
         }
     }
@@ -56,9 +50,7 @@ fn read_sizes(rt: &HostRuntime) -> anyhow::Result<Option<Sizes>> {
 
 // How many a second, of `count` done since `start`.
 pub(crate) fn rate(rt: &HostRuntime, start: &Instant, count: u64) -> anyhow::Result<u64> {
-    let micros = start.elapsed(rt)?.as_micros().max(1);
-    let per_second = u128::from(count).saturating_mul(1_000_000) / micros;
-    Ok(u64::try_from(per_second).unwrap_or(u64::MAX))
+    Ok(per_second(count, start.elapsed(rt)?.as_micros()))
 }
 
 pub(crate) fn show(
@@ -67,11 +59,8 @@ pub(crate) fn show(
     measure: &str,
     digest: &[u8; 32],
 ) -> anyhow::Result<()> {
-    print!(rt; "{name} {measure} ")?;
-    for byte in digest {
-        print!(rt; "{byte:02x}")?;
-    }
-    println!(rt; "")?;
+    let text = hex::encode(rt.alloc(), digest)?;
+    println!(rt; "{name} {measure} {text}")?;
     Ok(())
 }
 
@@ -106,19 +95,15 @@ fn measure_hmac<H: Hash>(rt: &HostRuntime, name: &str, sizes: &Sizes) -> anyhow:
     show(rt, name, "mac_eight", &digest)
 }
 
-fn run(rt: &HostRuntime) -> anyhow::Result<()> {
-    let Some(sizes) = read_sizes(rt)? else {
+fn main(rt: HostRuntime) -> anyhow::Result<()> {
+    let Some(sizes) = read_sizes(&rt)? else {
         rt.print(USAGE)?;
         return Ok(());
     };
-    measure_hash::<Sha256>(rt, "sha256", &sizes)?;
-    measure_hash::<Shake256>(rt, "shake256", &sizes)?;
-    measure_hmac::<Sha256>(rt, "sha256", &sizes)?;
-    measure_hmac::<Shake256>(rt, "shake256", &sizes)?;
-    trees::measure::<Sha256>(rt, "sha256", sizes.height)?;
-    trees::measure::<Shake256>(rt, "shake256", sizes.height)
-}
-
-fn main(rt: HostRuntime) -> anyhow::Result<()> {
-    run(&rt)
+    measure_hash::<Sha256>(&rt, "sha256", &sizes)?;
+    measure_hash::<Shake256>(&rt, "shake256", &sizes)?;
+    measure_hmac::<Sha256>(&rt, "sha256", &sizes)?;
+    measure_hmac::<Shake256>(&rt, "shake256", &sizes)?;
+    trees::measure::<Sha256>(&rt, "sha256", sizes.height)?;
+    trees::measure::<Shake256>(&rt, "shake256", sizes.height)
 }

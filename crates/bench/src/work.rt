@@ -1,6 +1,7 @@
 // The work that is measured. Messages differ from call to call and from lane to lane.
 use hash::Hash;
 use hash::hmac::HmacKey;
+use std::array;
 
 pub(crate) const PIECE: usize = 16384;
 
@@ -27,11 +28,7 @@ fn folded<H: Hash>(digests: &[[u8; 32]; 8]) -> [u8; 32] {
 }
 
 fn pattern() -> [u8; PIECE] {
-    let mut piece = [0u8; PIECE];
-    for (i, byte) in piece.iter_mut().enumerate() {
-        *byte = (i % 251) as u8;
-    }
-    piece
+    array::from_fn(|i| (i % 251) as u8)
 }
 
 fn stamp(piece: &mut [u8; PIECE], round: u64) {

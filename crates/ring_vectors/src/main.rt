@@ -2,23 +2,26 @@
 #![tactic(auto)]
 
 use ring_suites::{Refusals, Splits, Tables};
-use std::env;
-use vector_files::Totals;
+use vector_files::{Program, Totals, run_program};
 
-const HELP: &str = "usage: ring_vectors [FOLDER]
+struct RingVectors;
+
+impl Program for RingVectors {
+    const HELP: &'static str = "usage: ring_vectors [FOLDER]
 
 Runs every vector file on dealt keys that it knows and finds in FOLDER, and prints a line a file
 with its number of cases and of wrong ones; each wrong case is named above it.
 Without FOLDER it looks in the folder that it is run in, and, if there is none there,
 in crates/ring_vectors/data. It ends with status 1 if a case is wrong or no file is found.";
 
-// Every file that it knows.
-fn run_all(rt: &HostRuntime, folder: &str) -> anyhow::Result<Totals> {
-    let mut totals = Totals::new();
-    run_splits(rt, folder, &mut totals)?;
-    totals.run(rt, folder, "tables.txt", Tables::new())?;
-    totals.run(rt, folder, "refusals.txt", Refusals)?;
-    Ok(totals)
+    const DATA: &'static str = "crates/ring_vectors/data";
+
+    fn run_all(rt: &HostRuntime, folder: &str, totals: &mut Totals) -> anyhow::Result<()> {
+        run_splits(rt, folder, totals)?;
+        totals.run(rt, folder, "tables.txt", Tables::default())?;
+        totals.run(rt, folder, "refusals.txt", Refusals)?;
+        Ok(())
+    }
 }
 
 // The files of one key each, by hash, height and width.
@@ -27,31 +30,13 @@ fn run_splits(rt: &HostRuntime, folder: &str, totals: &mut Totals) -> anyhow::Re
         for height in [5u32, 10] {
             for width in [1u32, 2, 4, 8] {
                 let name = format!(in rt.alloc(); "split-{hash}-h{height}-w{width}.txt")?;
-                totals.run(rt, folder, name.as_str(), Splits::new())?;
+                totals.run(rt, folder, name.as_str(), Splits::default())?;
             }
         }
     }
     Ok(())
 }
 
-fn run(rt: &HostRuntime) -> anyhow::Result<()> {
-    let mut args = env::args(rt)?;
-    let _program = args.next();
-    let Some(folder) = args.next() else {
-        let mut totals = run_all(rt, ".")?;
-        if totals.files() == 0 {
-            totals = run_all(rt, "crates/ring_vectors/data")?;
-        }
-        return totals.finish(rt);
-    };
-    if folder.as_str() == "--help" {
-        rt.println(HELP)?;
-        return Ok(());
-    }
-    let totals = run_all(rt, folder.as_str())?;
-    totals.finish(rt)
-}
-
 fn main(rt: HostRuntime) -> anyhow::Result<()> {
-    run(&rt)
+    run_program::<RingVectors>(&rt)
 }

@@ -1,11 +1,10 @@
 // A plan dealt from an example seed. Real seeds and pad keys are drawn elsewhere and kept secret.
-use crate::hex;
 use anyhow::anyhow;
 use dealer::Dealer;
 use layout::{part_rows, table_rows};
 use pads::HmacPads;
 use plan::Plan;
-use rows::{Identifier, Seed};
+use rows::{Identifier, Origin, Seed};
 use sha256::{Hasher, sha256};
 use std::alloc::Global;
 
@@ -16,18 +15,19 @@ pub(crate) struct Example {
     sources: Vec<HmacPads<Hasher>>,
 }
 
-// The first half of the digest of a name.
-fn identifier() -> Identifier {
-    let digest = sha256(b"example identifier");
+// The identifier is the first half of the digest of a name, and the seed a digest.
+fn origin() -> Origin {
     let mut bytes = [0u8; 16];
-    bytes.copy_from_slice(&digest[0..16]);
-    Identifier::new(bytes)
+    bytes.copy_from_slice(&sha256(b"example identifier")[0..16]);
+    Origin {
+        id: Identifier::new(bytes),
+        seed: Seed::new(sha256(b"example seed")),
+    }
 }
 
 impl Example {
     pub(crate) fn new(heap: Global, plan: Plan) -> anyhow::Result<Example> {
-        let seed = Seed::new(sha256(b"example seed"));
-        let dealer = Dealer::<Hasher>::new(heap, plan, identifier(), seed)?;
+        let dealer = Dealer::<Hasher>::new(heap, plan, origin())?;
         let mut sources = Vec::new(heap);
         for trustee in 1..=plan.trustees() {
             let key = sha256(&[b'p', b'a', b'd', b's', trustee]);
@@ -47,15 +47,14 @@ impl Example {
             let number = refusal.number();
             println!(rt; "refusal {number}")?;
         }
-        let text = hex::encode(rt.alloc(), &root)?;
+        let text = hex::encode(rt.alloc(), root)?;
         println!(rt; "root {text}")?;
-        for number in 0..self.plan.groups() {
-            if let Some(group) = self.plan.group(number) {
-                let members = group.size();
-                let keys = group.count;
-                let rows = part_rows(self.plan.height(), self.plan.width(), &group);
-                println!(rt; "group {number}: {members} members, {keys} keys, {rows} rows a key")?;
-            }
+        for group in self.plan.iter() {
+            let number = group.number;
+            let members = group.size();
+            let keys = group.count;
+            let rows = part_rows(self.plan.height(), self.plan.width(), &group);
+            println!(rt; "group {number}: {members} members, {keys} keys, {rows} rows a key")?;
         }
         let rows = table_rows(&self.plan);
         let bytes = 32 * rows;
@@ -78,7 +77,7 @@ impl Example {
                 eprintln!(rt; "dealt {done} of {dealt} keys")?;
             }
         }
-        let digest = hex::encode(rt.alloc(), &sha256(&table))?;
+        let digest = hex::encode(rt.alloc(), sha256(&table))?;
         println!(rt; "table's SHA-256 {digest}")?;
         Ok(())
     }

@@ -2,7 +2,6 @@
 #![tactic(auto)]
 
 mod deals;
-mod hex;
 
 use anyhow::anyhow;
 use deals::Example;

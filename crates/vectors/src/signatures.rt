@@ -2,18 +2,18 @@
 use anyhow::Context;
 use either::{Either, Left, Right, for_both};
 use lms::{Tree, scheme, verify};
-use rows::{Identifier, Seed};
+use rows::{Identifier, Origin, Seed};
 use sha256::Hasher as Sha256;
 use shake256::Hasher as Shake256;
 use sizes::{Height, Width};
 use vector_files::{Block, HashName, Suite};
 
 pub(crate) fn width_of(block: &Block) -> anyhow::Result<Width> {
-    Width::of(block.number("w")?).context("a vector has an unknown width")
+    Width::try_from(block.number("w")?).ok().context("a vector has an unknown width")
 }
 
 pub(crate) fn height_of(block: &Block) -> anyhow::Result<Height> {
-    Height::of(block.number("h")?).context("a vector has an unknown height")
+    Height::try_from(block.number("h")?).ok().context("a vector has an unknown height")
 }
 
 #[derive(Drop)]
@@ -40,11 +40,13 @@ fn grow(block: &Block) -> anyhow::Result<AnyTree> {
     let heap = block.heap();
     let height = height_of(block)?;
     let width = width_of(block)?;
-    let id = Identifier::new(block.array("identifier")?);
-    let seed = Seed::new(block.array("seed")?);
+    let origin = Origin {
+        id: Identifier::new(block.array("identifier")?),
+        seed: Seed::new(block.array("seed")?),
+    };
     Ok(match HashName::of(block)? {
-        HashName::Sha256 => Left(Tree::grow(heap, height, width, id, seed)?),
-        HashName::Shake256 => Right(Tree::grow(heap, height, width, id, seed)?),
+        HashName::Sha256 => Left(Tree::grow(heap, height, width, origin)?),
+        HashName::Shake256 => Right(Tree::grow(heap, height, width, origin)?),
     })
 }
 
