@@ -1,4 +1,9 @@
 // The blocks of a vector file: lines of the form `name = value`, ended by a blank line.
+ghost use Rattle.std.specs.Prelude.{◌≡◌, ℕ, List, [], Some, IfOk};
+ghost use Rattle.std.specs.Option.{option_map};
+ghost use Rattle.vector_files.specs.Blocks.{value_of};
+ghost use Rattle.vector_files.specs.Hex.{decoded};
+
 use crate::hex;
 use anyhow::{Context, anyhow, ensure};
 use std::alloc::{AllocError, Global};
@@ -12,11 +17,15 @@ pub struct Field<'t> {
 }
 
 impl<'t> Field<'t> {
-    pub fn name(&self) -> &'t str {
+    pub fn name(&self) -> &'t str
+        ensures { result.now ≡ self.now.name.now }
+    {
         self.name
     }
 
-    pub fn line(&self) -> usize {
+    pub fn line(&self) -> usize
+        ensures { result ≡ self.now.line }
+    {
         self.line
     }
 }
@@ -29,18 +38,24 @@ pub struct Block<'t> {
 }
 
 impl<'t> Block<'t> {
-    pub fn new(heap: Global) -> Block<'t> {
+    pub fn new(heap: Global) -> Block<'t>
+        ensures { result.fields.items ≡ [] }
+    {
         Block {
             heap,
             fields: Vec::new(heap),
         }
     }
 
-    pub fn heap(&self) -> Global {
+    pub fn heap(&self) -> Global
+        ensures { result ≡ self.now.heap }
+    {
         self.heap
     }
 
-    pub fn fields(&self) -> &[Field<'t>] {
+    pub fn fields(&self) -> &[Field<'t>]
+        ensures { result.now ≡ self.now.fields.items }
+    {
         &self.fields
     }
 
@@ -56,13 +71,17 @@ impl<'t> Block<'t> {
         Ok(())
     }
 
-    pub fn text(&self, name: &str) -> Option<&'t str> {
+    pub fn text(&self, name: &str) -> Option<&'t str>
+        ensures { option_map (λ t. t.now) result ≡ value_of name.now self.now.fields.items }
+    {
         let field = self.fields.iter().find(|field| field.name == name)?;
         Some(field.value)
     }
 
     // A value that the block has to have.
-    pub fn required(&self, name: &str) -> anyhow::Result<&'t str> {
+    pub fn required(&self, name: &str) -> anyhow::Result<&'t str>
+        ensures { IfOk result (λ t. value_of name.now self.now.fields.items ≡ Some t.now) }
+    {
         self.text(name).context("a vector lacks a value")
     }
 
@@ -91,7 +110,9 @@ impl<'t> Block<'t> {
     }
 
     // Exactly N bytes.
-    pub fn array<const N: usize>(&self, name: &str) -> anyhow::Result<[u8; N]> {
+    pub fn array<const N: usize>(&self, name: &str) -> anyhow::Result<[u8; N]>
+        ensures { IfOk result (λ a. (t : List ℕ) × (value_of name.now self.now.fields.items ≡ Some t) × (decoded t ≡ Some a)) }
+    {
         let bytes = self.bytes(name)?;
         ensure!(bytes.len() == N, "a value has not {N} bytes");
         let mut array = [0; N];
@@ -99,7 +120,9 @@ impl<'t> Block<'t> {
         Ok(array)
     }
 
-    pub fn bytes(&self, name: &str) -> anyhow::Result<Vec<u8>> {
+    pub fn bytes(&self, name: &str) -> anyhow::Result<Vec<u8>>
+        ensures { IfOk result (λ v. (t : List ℕ) × (value_of name.now self.now.fields.items ≡ Some t) × (decoded t ≡ Some v.items)) }
+    {
         hex::decode(self.heap, self.required(name)?)?.context("a value is not hexadecimal")
     }
 }

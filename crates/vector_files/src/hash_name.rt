@@ -1,4 +1,6 @@
 // The two hashes, by the names that vectors give them.
+ghost use Rattle.std.specs.Prelude.{◌≡◌, Some, codes, MatchResult, ◌≢◌};
+
 use crate::blocks::Block;
 use std::error::Error;
 use std::fmt;
@@ -14,6 +16,8 @@ pub enum HashName {
 pub struct UnknownHash;
 
 impl fmt::Display for UnknownHash {
+    ghost output = { λ e. Some (codes "a vector names an unknown hash") };
+
     fn fmt<W: fmt::Write>(&self, f: &mut fmt::Formatter<W>) -> fmt::Result {
         f.write_str("a vector names an unknown hash")
     }
@@ -22,7 +26,12 @@ impl fmt::Display for UnknownHash {
 impl Error for UnknownHash {}
 
 impl TryFrom<&str> for HashName {
+    ghost use Rattle.vector_files.specs.Hashes.{name_of};
+    ghost use Rattle.vector_files.specs.declared.hash_name.HashName.{HashName};
+
     type Error = UnknownHash;
+
+    ghost try_from_gives = { λ name r. MatchResult r (λ h. name.now ≡ name_of h) (λ _. (h : HashName) → name.now ≢ name_of h) };
 
     fn try_from(name: &str) -> Result<HashName, UnknownHash> {
         match name {

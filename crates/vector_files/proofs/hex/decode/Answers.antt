@@ -1,7 +1,7 @@
-use Rattle.std.proofs.Common.{◌≡◌, ℕ, ◌<◌, ◌≤◌, List, ◌∷◌, ◌++◌, length, drop, Some, None, ap, sym, ◌∙◌, rules, slice_index_or}
+use Rattle.std.proofs.Common.{◌≡◌, ◌≤◌, ◌∷◌, ◌++◌, length, drop, Some, ap, sym, ◌∙◌, rules}
 use Rattle.std.specs.Option.{option_map, option_and_then}
 use Rattle.std.proofs.lemmas.List.{append-nil, take_rest}
-use Rattle.vector_files.specs.Hex.{decoded, pair}
+use Rattle.vector_files.specs.Hex.{decoded}
 use Rattle.vector_files.proofs.Decoding.{decoded_pair, decoded_none, decoded_one, joined}
 use Rattle.vector_files.proofs.hex.decode.Goals as goal
 
