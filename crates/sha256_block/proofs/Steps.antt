@@ -1,5 +1,5 @@
 -- One step of each of the recursions of the standard, at n + 1 as the loops have it.
-use Rattle.std.proofs.Common.{◌≡◌, ℕ, zero, suc, ◌+◌, ◌-◌, ◌<◌, ◌≤◌, min, List, [], ◌∷◌, ◌++◌, length, get_or, take, set, sym, refl, ap, ◌∙◌, add-zero, add-suc, add-one, arith}
+use Rattle.std.proofs.Common.{◌≡◌, ℕ, zero, suc, ◌+◌, ◌-◌, ◌<◌, ◌≤◌, List, [], ◌∷◌, ◌++◌, length, get_or, take, set, sym, refl, ap, ◌∙◌, add-zero, add-suc, add-one, arith}
 use Rattle.std.proofs.lemmas.List.{get_or-take, length-take-le, get_or_append_left, take_more_set, length_push}
 use Rattle.std.proofs.lemmas.List.FromFn.{fill_by_all}
 use Rattle.sha256_block.specs.Fips180.{Vars, word, parsed, scheduled, schedule, turn, turns, constants}
@@ -55,19 +55,6 @@ widen w b t x h e r =
     ∙ ap (λ n. schedule t b ++ scheduled (schedule t b) n ∷ []) j
     ∙ sym (schedule_suc t b)
     ∙ ap (λ n. schedule n b) (sym (add-one t))
-
--- the same in round t, which makes a word if there are words left to make
-pub widen_early : (w b : List ℕ) (t x : ℕ) → t < 48 → length w ≡ 64 → take (min t 48 + 16) w ≡ schedule (min t 48) b → x ≡ scheduled w (t + 16) →
-    take (min (t + 1) 48 + 16) (set w (t + 16) x) ≡ schedule (min (t + 1) 48) b
-widen_early w b t x h l e r =
-    let p : min t 48 ≡ t = omega arith in
-    let q : min (t + 1) 48 ≡ t + 1 = omega arith in
-    rw q (widen w b t x (omega arith) (rw p at e) r)
-
-pub widen_late : (w b : List ℕ) (t : ℕ) → 48 ≤ t → take (min t 48 + 16) w ≡ schedule (min t 48) b → take (min (t + 1) 48 + 16) w ≡ schedule (min (t + 1) 48) b
-widen_late w b t h e =
-    let p : min t 48 ≡ min (t + 1) 48 = omega arith in
-    rw p at e
 
 pub turns_none : (ws : List ℕ) (v : Vars) → turns 0 ws v ≡ v
 unfolding turns

@@ -51,22 +51,20 @@ fn gather(blocks: &[[u8; 64]; 8], t: usize) -> u32x8
     u32x8::from_array(array::from_fn(|i| load(&blocks[i], t)))
 }
 
-fn parse(blocks: &[[u8; 64]; 8]) -> [u32x8; 16]
+// Room for the whole schedules, with the words of the blocks at their front.
+fn parse(blocks: &[[u8; 64]; 8]) -> [u32x8; 64]
     ensures { (t i : ℕ) → t < 16 → i < 8 → slice_index (slice_index_or result t []) i ≡ word (slice_index_or blocks.now i []) t }
 {
-    array::from_fn(
-        |t: usize| -> u32x8
-            requires { t < 16 }
-            ensures { (i : ℕ) → i < 8 → slice_index result i ≡ word (slice_index_or blocks.entry.now i []) t }
-        { gather(blocks, t) },
-    )
+    let mut words = [u32x8::splat(0); 64];
+    for t in 0..16 {
+        words[t] = gather(blocks, t);
+    }
+    words
 }
 
 /// Takes one block into each of eight hash values: lane i has the words of hash value i.
 pub fn compress_eight(hash: &mut [u32x8; 8], blocks: &[[u8; 64]; 8])
     ensures { (i : ℕ) → i < 8 → lane i hash.new ≡ compressed (lane i hash.old) (slice_index_or blocks.now i []) }
 {
-    let mut words = [u32x8::splat(0); 64];
-    words[..16].copy_from_slice(&parse(blocks));
-    rounds::compress(hash, &mut words);
+    rounds::compress(hash, &mut parse(blocks));
 }

@@ -51,12 +51,14 @@ fn sum<W: Word>(variables: &[W; 8], hash: &[W; 8]) -> [W; 8]
 pub(crate) fn compress<W: Word>(hash: &mut [W; 8], words: &mut [W; 64])
     ensures { (i : ℕ) (b : List ℕ) → i < W.count → ((t : ℕ) → t < 16 → slice_index (map (W.at i) words.old) t ≡ word b t) → map (W.at i) hash.new ≡ compressed (map (W.at i) hash.old) b }
 {
+    let (early, late) = ROUNDS.split_at(48);
     let mut variables = *hash;
-    for (t, constant) in ROUNDS.iter().enumerate() {
+    for (t, constant) in early.iter().enumerate() {
         variables = round(variables, *constant, words[t]);
-        if t < 48 {
-            words[t + 16] = next_word(words, t + 16);
-        }
+        words[t + 16] = next_word(words, t + 16);
+    }
+    for (t, constant) in late.iter().enumerate() {
+        variables = round(variables, *constant, words[48 + t]);
     }
     *hash = sum(&variables, hash);
 }

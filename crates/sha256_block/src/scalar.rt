@@ -4,7 +4,6 @@ ghost use Rattle.sha256_block.specs.Fips180.{word, compressed};
 
 use crate::rounds;
 use crate::word::Word;
-use std::array;
 
 impl Word for u32 {
     ghost count = { 1 };
@@ -53,17 +52,20 @@ pub(crate) fn load(block: &[u8; 64], t: usize) -> u32
     ])
 }
 
-fn parse(block: &[u8; 64]) -> [u32; 16]
+// Room for the whole schedule, with the words of the block at its front.
+fn parse(block: &[u8; 64]) -> [u32; 64]
     ensures { (t : ℕ) → t < 16 → slice_index result t ≡ word block.now t }
 {
-    array::from_fn(|t| load(block, t))
+    let mut words = [0; 64];
+    for t in 0..16 {
+        words[t] = load(block, t);
+    }
+    words
 }
 
 /// Takes one block into the hash value.
 pub fn compress(hash: &mut [u32; 8], block: &[u8; 64])
     ensures { hash.new ≡ compressed hash.old block.now }
 {
-    let mut words = [0; 64];
-    words[..16].copy_from_slice(&parse(block));
-    rounds::compress(hash, &mut words);
+    rounds::compress(hash, &mut parse(block));
 }
