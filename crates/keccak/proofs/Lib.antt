@@ -1,3 +1,3 @@
-pub mod Rows
+pub mod Arrays
 pub mod Steps
 pub mod Tables

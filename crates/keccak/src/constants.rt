@@ -1,8 +1,5 @@
-ghost use Rattle.std.specs.Prelude.{◌≡◌, ◌<◌, slice_index};
-ghost use Rattle.keccak.specs.Fips202.{constants};
-
 // The constants of the 24 rounds (FIPS 202, section 3.2.5).
-const ROUNDS: [u64; 24] = [
+pub(crate) const ROUNDS: [u64; 24] = [
     0x0000000000000001,
     0x0000000000008082,
     0x800000000000808a,
@@ -28,10 +25,3 @@ const ROUNDS: [u64; 24] = [
     0x0000000080000001,
     0x8000000080008008,
 ];
-
-pub(crate) fn round_constant(t: usize) -> u64
-    requires { t < 24 }
-    ensures { result ≡ slice_index constants t }
-{
-    ROUNDS[t]
-}

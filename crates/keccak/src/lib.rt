@@ -3,7 +3,9 @@
 
 mod constants;
 mod pairs;
+mod rounds;
 mod scalar;
+mod word;
 
 pub use pairs::permute_two;
 pub use scalar::permute;

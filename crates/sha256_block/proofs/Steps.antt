@@ -1,23 +1,20 @@
 -- One step of each of the recursions of the standard, at n + 1 as the loops have it.
 use Rattle.std.proofs.Common.{◌≡◌, ℕ, zero, suc, ◌+◌, ◌-◌, ◌<◌, ◌≤◌, List, [], ◌∷◌, ◌++◌, length, get_or, take, set, sym, refl, ap, ◌∙◌, add-zero, add-suc, add-one, arith}
-use Rattle.std.proofs.lemmas.List.{get_or-take, get_or_append_left, take_more_set, length_push}
+use Rattle.std.proofs.lemmas.List.{get_or-take, length-take-le, get_or_append_left, take_more_set, length_push}
+use Rattle.std.proofs.lemmas.List.FromFn.{fill_by_all}
 use Rattle.sha256_block.specs.Fips180.{Vars, word, parsed, scheduled, schedule, turn, turns, constants}
 
-pub parsed_none : (b : List ℕ) → parsed 0 b ≡ []
-unfolding parsed
-parsed_none b = refl
-
-parsed_more : (n : ℕ) (b : List ℕ) → parsed (n + 1) b ≡ parsed n b ++ word b n ∷ []
-unfolding parsed
-parsed_more n b = rw add-one
-
--- one word of the block more
-pub parse : (w b : List ℕ) (t x : ℕ) → t < length w → take t w ≡ parsed t b → x ≡ word b t → take (t + 1) (set w t x) ≡ parsed (t + 1) b
-parse w b t x h e r = take_more_set w t x h ∙ rw (e, r, parsed_more)
-
-pub schedule_none : (b : List ℕ) → schedule 0 b ≡ parsed 16 b
+schedule_none : (b : List ℕ) → schedule 0 b ≡ parsed 16 b
 unfolding schedule
 schedule_none b = refl
+
+-- the words of a block begin the list
+abbrev pub Begins : List ℕ → List ℕ → Type 0
+Begins w b = (t : ℕ) → t < 16 → get_or w t 0 ≡ word b t
+
+pub begun : (w b : List ℕ) → 16 ≤ length w → Begins w b → take 16 w ≡ schedule 0 b
+unfolding schedule parsed
+begun w b l h = fill_by_all (word b) (take 16 w) 16 0 (length-take-le 16 w l) (λ t k. get_or-take 16 w t 0 k ∙ h t k)
 
 schedule_suc : (n : ℕ) (b : List ℕ) → schedule (suc n) b ≡ schedule n b ++ scheduled (schedule n b) (16 + n) ∷ []
 unfolding schedule
@@ -67,17 +64,11 @@ turns_more : (n : ℕ) (ws : List ℕ) (v : Vars) → turns (n + 1) ws v ≡ tur
 unfolding turns
 turns_more n ws v = rw add-one
 
--- one round more, where the words from t + 16 on are not made yet
-pub turns_early : (w b : List ℕ) (v u u1 : Vars) (t : ℕ) → t < 48 → take (t + 16) w ≡ schedule t b → u ≡ turns t (schedule 48 b) v →
+-- one round more, where n words of the schedule are made
+pub turns_step : (w b : List ℕ) (v u u1 : Vars) (t n : ℕ) → n ≤ 48 → t < n + 16 → take (n + 16) w ≡ schedule n b → u ≡ turns t (schedule 48 b) v →
     u1 ≡ turn (get_or constants t 0) (get_or w t 0) u → u1 ≡ turns (t + 1) (schedule 48 b) v
-turns_early w b v u u1 t h e p q =
-    let k : t + (48 - t) ≡ 48 = omega arith in
+turns_step w b v u u1 t n h l e p q =
+    let k : n + (48 - n) ≡ 48 = omega arith in
     let at : get_or w t 0 ≡ get_or (schedule 48 b) t 0 =
-    sym (get_or-take (t + 16) w t 0 (omega arith)) ∙ ap (λ s. get_or s t 0) e ∙ sym (schedule_front (48 - t) t t b (omega arith)) ∙ ap (λ n. get_or (schedule n b) t 0) k in
+    sym (get_or-take (n + 16) w t 0 l) ∙ ap (λ s. get_or s t 0) e ∙ sym (schedule_front (48 - n) n t b (omega arith)) ∙ ap (λ m. get_or (schedule m b) t 0) k in
     q ∙ ap (λ x. turn (get_or constants t 0) x u) at ∙ ap (turn (get_or constants t 0) (get_or (schedule 48 b) t 0)) p ∙ sym (turns_more t (schedule 48 b) v)
-
--- one round more, with the whole schedule
-pub turns_late : (w b : List ℕ) (v u u1 : Vars) (t : ℕ) → w ≡ schedule 48 b → u ≡ turns t (schedule 48 b) v →
-    u1 ≡ turn (get_or constants t 0) (get_or w t 0) u → u1 ≡ turns (t + 1) (schedule 48 b) v
-turns_late w b v u u1 t e p q =
-    q ∙ ap (λ s. turn (get_or constants t 0) (get_or s t 0) u) e ∙ ap (turn (get_or constants t 0) (get_or (schedule 48 b) t 0)) p ∙ sym (turns_more t (schedule 48 b) v)

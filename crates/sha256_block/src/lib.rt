@@ -3,7 +3,9 @@
 
 mod constants;
 mod lanes;
+mod rounds;
 mod scalar;
+mod word;
 
 pub use lanes::compress_eight;
 pub use scalar::compress;

@@ -1,8 +1,8 @@
 -- Lanes of what an operation on vectors gives.
-use Rattle.std.proofs.Common.{◌≡◌, ℕ, zero, suc, ◌<◌, List, [], ◌∷◌, map, length, get_or, set, replicate, sym, ap, ◌∙◌, arith}
+use Rattle.std.proofs.Common.{◌≡◌, ℕ, zero, suc, ◌<◌, List, [], ◌∷◌, length, get_or, replicate, sym, ap, ◌∙◌, arith}
 use lib.Lanes.{zip2}
 use Rattle.std.proofs.lemmas.Simd.{length-zip2, get_or-zip2, get_or-replicate, length-replicate}
-use Rattle.std.proofs.lemmas.List.{get_or-map, map-set, length-map}
+use Rattle.std.proofs.lemmas.List.{get_or-map, length-map}
 use Rattle.simd_lanes.specs.Lane.{lane}
 
 -- vectors of n lanes
@@ -26,18 +26,9 @@ module _ (n : ℕ) where
       ∙ ap (λ u. o u (get_or q i 0)) (at_splat f a j i la h)
       ∙ ap (o (f (get_or a i 0) j)) (at_splat g a k i la h)
 
-  -- an operation whose first operand is mapped, as by a complement
-  pub at_mapped : (o : ℕ → ℕ → ℕ) (f : ℕ → ℕ) (a b : List ℕ) (i : ℕ) → length a ≡ n → length b ≡ n → i < n → get_or (zip2 o (map f a) b) i 0 ≡ o (f (get_or a i 0)) (get_or b i 0)
-  at_mapped o f a b i la lb h =
-      at2 o (map f a) b i (length-map a f ∙ la) lb h ∙ ap (λ u. o u (get_or b i 0)) (get_or-map f a i 0 0 (omega arith))
-
 pub get_or_lane : (i : ℕ) (vs : List (List ℕ)) (t : ℕ) → t < length vs → get_or (lane i vs) t 0 ≡ get_or (get_or vs t []) i 0
 unfolding lane
 get_or_lane i vs t h = get_or-map (λ v. get_or v i 0) vs t [] 0 h
-
-pub lane_set : (i : ℕ) (vs : List (List ℕ)) (t : ℕ) (v : List ℕ) → lane i (set vs t v) ≡ set (lane i vs) t (get_or v i 0)
-unfolding lane
-lane_set i vs t v = map-set (λ v. get_or v i 0) vs t v
 
 pub length_lane : (i : ℕ) (vs : List (List ℕ)) → length (lane i vs) ≡ length vs
 unfolding lane

@@ -1,6 +1,6 @@
-use Rattle.std.proofs.Common.{◌≡◌, length, take}
-use Rattle.sha256_block.specs.Fips180.{parsed}
+use Rattle.std.proofs.Common.{◌≡◌, ℕ, ◌<◌, length, get_or}
+use Rattle.sha256_block.specs.Fips180.{word}
 use Rattle.sha256_block.proofs.scalar.parse.Given as goal
 
 abbrev pub invariant-loop-t : goal.invariant-loop-t
-invariant-loop-t l = (length l.words ≡ 64) × (take l.t l.words ≡ parsed l.t l.block)
+invariant-loop-t l = (length l.words ≡ 64) × ((k : ℕ) → k < l.t → get_or l.words k 0 ≡ word l.block k)

@@ -1,8 +1,0 @@
-use lib.Bits.{bit_and}
-use Rattle.std.proofs.Common.{rules}
-use Rattle.simd_lanes.proofs.Ops.{at_mapped}
-use Rattle.sha256_block.specs.Fips180.{complement}
-use Rattle.sha256_block.proofs.lanes.not_and.Goals as goal
-
-pub returns : goal.returns
-returns c i h = at_mapped 8 bit_and complement c.args.a c.args.b i (search rules) (search rules) h

@@ -1,7 +1,0 @@
-use lib.Bits.{bit_xor}
-use Rattle.std.proofs.Common.{rules}
-use Rattle.simd_lanes.proofs.Ops.{at2}
-use Rattle.sha256_block.proofs.lanes.xor.Goals as goal
-
-pub returns : goal.returns
-returns c i h = at2 8 bit_xor c.args.a c.args.b i (search rules) (search rules) h
