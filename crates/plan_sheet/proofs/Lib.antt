@@ -1,6 +1,7 @@
 pub mod Fields
 pub mod Groups
 pub mod Lines
+pub mod Cut
 pub mod Cells
 pub mod Law
 pub mod Soundness

@@ -10,15 +10,6 @@ use Rattle.std.specs.List.{range_with_len}
 use Rattle.plan.specs.Every.{every}
 use Rattle.plan_sheet.proofs.Groups.{from_next}
 
--- one line more of k
-pub fed_next : (s : List ℕ) (i k : ℕ) → 1 ≤ k → every (fed s) (range_with_len (i + 1) k) ≡ (eqb (get_or s (25 * i + 24) 0) 10 && every (fed s) (range_with_len ((i + 1) + 1) (k - 1)))
-fed_next s i k h =
-    let e : (i + 1) - 1 ≡ i = omega arith in
-    ap (every (fed s)) (from_next (i + 1) k h) ∙ ap (λ j. eqb (get_or s (25 * j + 24) 0) 10 && every (fed s) (range_with_len ((i + 1) + 1) (k - 1))) e
-
-pub above_first : (s : List ℕ) → above_at s 2 ≡ 0
-above_first s = refl
-
 pub above_next : (s : List ℕ) (i : ℕ) → above_at s ((i + 1) + 2) ≡ mask_at s (i + 2)
 above_next s i =
     let e : ((i + 1) + 2) - 1 ≡ i + 2 = omega arith in

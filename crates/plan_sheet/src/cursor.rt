@@ -7,7 +7,7 @@ ghost use Rattle.plan_sheet.specs.Checks.{first, line_fault, mask_at, above_at, 
 ghost use Rattle.std.specs.List.{range_with_len};
 ghost use Rattle.sizes.specs.Sizes.{levels, bits};
 
-use crate::quantities::{Groups, Quantity, Trustees};
+use crate::quantities::{Quantity, UpTo};
 use crate::refusal::Refusal;
 use crate::tally::Tally;
 use sizes::{Height, Width};
@@ -141,15 +141,15 @@ impl<'s> Cursor<'s> {
         ensures value { MatchResult result (λ h. Headed self.old.sheet.now h.trustees (levels h.height) (bits h.width) h.groups) (λ e. first (heading_faults self.old.sheet.now) ≡ Some e) }
         ensures moved { (self.new.sheet.now ≡ self.old.sheet.now) × (self.new.line ≡ self.old.line) }
     {
-        let trustees: Trustees = self.quantity()?;
+        let trustees: UpTo<8> = self.quantity()?;
         let height: Height = self.quantity()?;
         let width: Width = self.quantity()?;
-        let groups: Groups = self.quantity()?;
+        let groups: UpTo<70> = self.quantity()?;
         Ok(Heading {
-            trustees: trustees.0,
+            trustees: trustees.0 as u8,
             height,
             width,
-            groups: groups.0,
+            groups: groups.0 as usize,
         })
     }
 }

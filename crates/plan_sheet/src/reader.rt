@@ -48,11 +48,5 @@ fn formed(sheet: &[u8]) -> bool
 fn all_fed(sheet: &[u8]) -> bool
     ensures { result ≡ every (fed sheet.now) (range_with_len 1 (length sheet.now / 25)) }
 {
-    let lines = sheet.len() / 25;
-    for i in 0..lines {
-        if sheet[25 * i + 24] != b'\n' {
-            return false;
-        }
-    }
-    true
+    sheet.chunks_exact(25).all(|line| line[24] == b'\n')
 }

@@ -36,9 +36,9 @@ impl Refusal {
     {
         match self {
             Refusal::Layout => 0,
-            Refusal::NoNumber { line, .. } => *line,
-            Refusal::OutOfRange { line, .. } => *line,
-            Refusal::Members { line } => *line,
+            Refusal::NoNumber { line, .. }
+            | Refusal::OutOfRange { line, .. }
+            | Refusal::Members { line } => *line,
             Refusal::Groups => 1,
         }
     }
@@ -48,10 +48,8 @@ impl Refusal {
         ensures { result ≡ field_of self.now }
     {
         match self {
-            Refusal::Layout => 0,
-            Refusal::NoNumber { field, .. } => *field,
-            Refusal::OutOfRange { field, .. } => *field,
-            Refusal::Members { .. } => 0,
+            Refusal::Layout | Refusal::Members { .. } => 0,
+            Refusal::NoNumber { field, .. } | Refusal::OutOfRange { field, .. } => *field,
             Refusal::Groups => 4,
         }
     }

@@ -11,6 +11,6 @@ impl Suite for PlanSheets {
         let sheet = block.bytes(heap, "sheet")?;
         let print = block.bytes(heap, "print")?;
         let report = report_on(heap, &sheet)?;
-        Ok(Some(report.text.as_bytes() == print.as_slice()))
+        Ok(Some(report.text().as_bytes() == print.as_slice()))
     }
 }
