@@ -26,12 +26,12 @@ pub(crate) struct Field<'s> {
     bytes: &'s [u8],
     line: usize,
     field: usize,
+    ghost short: { length bytes.now ≤ 9 },
 }
 
 impl Field<'_> {
     // The number in it.
     pub(crate) fn number(&self) -> Result<u32, Refusal>
-        requires { length self.now.bytes.now ≤ 9 }
         ensures { MatchResult result (λ v. number self.now.bytes.now ≡ Some v) (λ e. (number self.now.bytes.now ≡ None) × (e ≡ Refusal.NoNumber self.now.line self.now.field)) }
     {
         let Some(value) = columns::number_in(self.bytes) else {
@@ -60,7 +60,6 @@ impl Field<'_> {
 
     // The quantity in it, of a heading.
     pub(crate) fn quantity<Q: Quantity>(&self) -> Result<Q, Refusal>
-        requires { length self.now.bytes.now ≤ 9 }
         ensures { MatchResult result (λ q. (quantity_fault Q.Quantity.allowed self.now.line self.now.field self.now.bytes.now ≡ None) × (Q.Quantity.amount q ≡ worth self.now.bytes.now) × (Q.Quantity.allowed (Q.Quantity.amount q) ≡ true)) (λ e. quantity_fault Q.Quantity.allowed self.now.line self.now.field self.now.bytes.now ≡ Some e) }
     {
         let number = self.number()?;
@@ -72,7 +71,6 @@ impl Field<'_> {
 
     // The trustee in it, or none where it is blank.
     pub(crate) fn trustee(&self, trustees: u8) -> Result<Option<u8>, Refusal>
-        requires { length self.now.bytes.now ≤ 9 }
         ensures { MatchResult result (λ t. (entry_faults trustees self.now.line self.now.field self.now.bytes.now ≡ None) × (unwrap_or t 0 ≡ worth self.now.bytes.now) × (unwrap_or t 0 ≤ trustees) × (is_some t ≡ nat_lt 0 (unwrap_or t 0))) (λ e. entry_faults trustees self.now.line self.now.field self.now.bytes.now ≡ Some e) }
     {
         if self.is_blank() {
@@ -99,7 +97,8 @@ impl<'s> Cursor<'s> {
 
     // The next field of some columns.
     pub(crate) fn next(&mut self, columns: usize) -> Field<'s>
-        requires { (1 ≤ self.old.line) × ((25 * self.old.line ≤ length self.old.sheet.now) × ((1 ≤ self.old.field) × ((columns * self.old.field ≤ 24) × (self.old.field ≤ 8)))) }
+        requires short { columns ≤ 9 }
+        requires place { (1 ≤ self.old.line) × ((25 * self.old.line ≤ length self.old.sheet.now) × ((1 ≤ self.old.field) × ((columns * self.old.field ≤ 24) × (self.old.field ≤ 8)))) }
         ensures bytes { result.bytes.now ≡ field_at columns self.old.sheet.now self.old.line self.old.field }
         ensures len { length result.bytes.now ≡ columns }
         ensures place { (result.line ≡ self.old.line) × (result.field ≡ self.old.field) }
@@ -164,7 +163,7 @@ impl Cursor<'_> {
         ensures moved { (self.new.sheet.now ≡ self.old.sheet.now) × (self.new.line ≡ self.old.line) }
     {
         let mut tally = Tally::new();
-        while self.field <= 8 {
+        for _ in 0..8usize {
             let trustee = self.next(3).trustee(trustees)?;
             tally = tally.with(trustee);
         }
@@ -184,10 +183,10 @@ impl Cursor<'_> {
     {
         let mut masks = [0u8; 70];
         let mut above = 0;
-        for group in 0..groups {
+        for mask in &mut masks[0..groups] {
             self.next_line();
             above = self.group(trustees, above)?;
-            masks[group] = above;
+            *mask = above;
         }
         Ok(masks)
     }
