@@ -12,12 +12,14 @@ use crate::refusal::Refusal;
 use crate::tally::Tally;
 use sizes::{Height, Width};
 
-// Line and field count from 1.
+// Line and field count from 1. The line is one of the sheet's, and the field is at most one behind its last.
 #[derive(Drop)]
 pub(crate) struct Cursor<'s> {
     sheet: &'s [u8],
     line: usize,
     field: usize,
+    ghost line_in: { (1 ≤ line) × (25 * line ≤ length sheet.now) },
+    ghost field_in: { (1 ≤ field) × (field ≤ 9) },
 }
 
 // A field with its place.
@@ -86,6 +88,7 @@ impl Field<'_> {
 
 impl<'s> Cursor<'s> {
     pub(crate) fn new(sheet: &'s [u8]) -> Cursor<'s>
+        requires { 25 ≤ length sheet.now }
         ensures { (result.sheet.now ≡ sheet.now) × (result.line ≡ 1) × (result.field ≡ 1) }
     {
         Cursor {
@@ -98,7 +101,7 @@ impl<'s> Cursor<'s> {
     // The next field of some columns.
     pub(crate) fn next(&mut self, columns: usize) -> Field<'s>
         requires short { columns ≤ 9 }
-        requires place { (1 ≤ self.old.line) × ((25 * self.old.line ≤ length self.old.sheet.now) × ((1 ≤ self.old.field) × ((columns * self.old.field ≤ 24) × (self.old.field ≤ 8)))) }
+        requires field { (columns * self.old.field ≤ 24) × (self.old.field ≤ 8) }
         ensures bytes { result.bytes.now ≡ field_at columns self.old.sheet.now self.old.line self.old.field }
         ensures len { length result.bytes.now ≡ columns }
         ensures place { (result.line ≡ self.old.line) × (result.field ≡ self.old.field) }
@@ -116,7 +119,7 @@ impl<'s> Cursor<'s> {
     }
 
     pub(crate) fn next_line(&mut self)
-        requires { self.old.line < 1000000000 }
+        requires { 25 * (self.old.line + 1) ≤ length self.old.sheet.now }
         ensures { (self.new.sheet.now ≡ self.old.sheet.now) × (self.new.line ≡ self.old.line + 1) × (self.new.field ≡ 1) }
     {
         self.line += 1;
@@ -125,8 +128,8 @@ impl<'s> Cursor<'s> {
 
     // The next quantity of the heading.
     pub(crate) fn quantity<Q: Quantity>(&mut self) -> Result<Q, Refusal>
-        requires line { (self.old.line ≡ 1) × (25 ≤ length self.old.sheet.now) }
-        requires field { (1 ≤ self.old.field) × (self.old.field ≤ 4) }
+        requires line { self.old.line ≡ 1 }
+        requires field { self.old.field ≤ 4 }
         ensures value { MatchResult result (λ q. (quantity_fault Q.Quantity.allowed self.old.line self.old.field (field_at 6 self.old.sheet.now self.old.line self.old.field) ≡ None) × (Q.Quantity.amount q ≡ worth (field_at 6 self.old.sheet.now self.old.line self.old.field)) × (Q.Quantity.allowed (Q.Quantity.amount q) ≡ true)) (λ e. quantity_fault Q.Quantity.allowed self.old.line self.old.field (field_at 6 self.old.sheet.now self.old.line self.old.field) ≡ Some e) }
         ensures moved { (self.new.sheet.now ≡ self.old.sheet.now) × (self.new.line ≡ self.old.line) × (self.new.field ≡ self.old.field + 1) }
     {
@@ -135,7 +138,6 @@ impl<'s> Cursor<'s> {
 
     pub(crate) fn heading(&mut self) -> Result<Heading, Refusal>
         requires line { self.old.line ≡ 1 }
-        requires long { 25 ≤ length self.old.sheet.now }
         requires field { self.old.field ≡ 1 }
         ensures value { MatchResult result (λ h. Headed self.old.sheet.now h.trustees (levels h.height) (bits h.width) h.groups) (λ e. first (heading_faults self.old.sheet.now) ≡ Some e) }
         ensures moved { (self.new.sheet.now ≡ self.old.sheet.now) × (self.new.line ≡ self.old.line) }
@@ -156,7 +158,7 @@ impl<'s> Cursor<'s> {
 impl Cursor<'_> {
     // The mask of a group line, above that of the line before.
     pub(crate) fn group(&mut self, trustees: u8, above: u8) -> Result<u8, Refusal>
-        requires place { (1 ≤ self.old.line) × ((25 * self.old.line ≤ length self.old.sheet.now) × (self.old.field ≡ 1)) }
+        requires field { self.old.field ≡ 1 }
         requires trustees { (trustees ≤ 8) × (trustees ≡ n_of self.old.sheet.now) }
         requires above { above ≡ above_at self.old.sheet.now self.old.line }
         ensures value { MatchResult result (λ m. (line_fault self.old.sheet.now self.old.line ≡ None) × (m ≡ mask_at self.old.sheet.now self.old.line) × (above < m) × (m < 2 ^ trustees)) (λ e. line_fault self.old.sheet.now self.old.line ≡ Some e) }

@@ -6,7 +6,7 @@ use Rattle.plan_sheet.proofs.Groups.{going_start, going_at, going_stop, going_ne
 use Rattle.plan_sheet.proofs.cursor.Cursor.group.Goals as goal
 
 pub loop-init : goal.loop-init
-loop-init c = (refl, refl, going_start _ _ _ _ _ _ _ c.requires.place.1.1 c.new-tally.ensures.0 (ap (λ o. unwrap_or o 0) c.new-tally.ensures.1) (ap is_some c.new-tally.ensures.1), omega arith)
+loop-init c = (refl, refl, going_start _ _ _ _ _ _ _ c.requires.field c.new-tally.ensures.0 (ap (λ o. unwrap_or o 0) c.new-tally.ensures.1) (ap is_some c.new-tally.ensures.1), omega arith)
 
 pub returns-in_err-trustee : goal.returns-in_err-trustee
 returns-in_err-trustee c =

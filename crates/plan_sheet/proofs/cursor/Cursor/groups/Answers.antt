@@ -13,7 +13,7 @@ group-requires c =
     let sh : c.next_line.new.self.sheet.now ≡ s = c.next_line.ensures.0 ∙ c.loop-mask.invariant.0 in
     let ln : c.next_line.new.self.line ≡ c.loop-mask.mask-index + 2 = omega (arith, c.next_line.ensures.1, c.loop-mask.invariant.1.at) in
     record {
-      place = (omega arith, (omega (arith, ap length sh, c.requires.place.1.0), c.next_line.ensures.2));
+      field = c.next_line.ensures.2;
       trustees = (c.requires.trustees.0, c.requires.trustees.1 ∙ ap n_of (sym sh));
       above = c.loop-mask.invariant.1.last ∙ sym (at_line above_at _ _ _ _ sh ln);
     }
