@@ -1,13 +1,12 @@
 -- The steps of the loops over the lines of a sheet.
-use Rattle.std.proofs.Common.{◌≡◌, ℕ, ◌+◌, ◌-◌, ◌*◌, ◌^◌, ◌<◌, ◌≤◌, Bool, true, false, ◌&&◌, eqb, leb, List, ◌∷◌, ◌++◌, map, length, get_or, set, take, drop, Some, None, Option, sym, refl, ap, ◌∙◌, subst, ⊎_elim, arith}
+use Rattle.std.proofs.Common.{◌≡◌, ℕ, ◌+◌, ◌-◌, ◌^◌, ◌<◌, ◌≤◌, Bool, true, false, ◌&&◌, eqb, leb, List, ◌∷◌, ◌++◌, map, length, get_or, set, take, drop, Some, None, Option, sym, refl, ap, ◌∙◌, subst, ⊎_elim, arith}
 use Rattle.std.proofs.lemmas.List.{get_or_append_left, get_or-set_same, get_or-set_other, length-set, length-take-le, length-append, length-drop}
 use Rattle.std.proofs.lemmas.Bool.{ne_eqb, cond-false, cases_eq, and_parts, eqb-true, leb-true}
 use Rattle.plan_sheet.specs.declared.refusal.Refusal.{Refusal}
 use Rattle.plan.specs.Shape.{Within, Rising}
 use Rattle.plan_sheet.specs.declared.refusal.Refusal.TheVariants.{Layout, Groups}
-use Rattle.plan_sheet.specs.Checks.{first, check, fed, formed, line_fault, line_count, mask_at, above_at, Lined, heading_faults, groups_fault, fault_of, m_of, h_of}
+use Rattle.plan_sheet.specs.Checks.{first, check, formed, line_fault, line_count, mask_at, above_at, Lined, heading_faults, groups_fault, fault_of, m_of, h_of}
 use Rattle.std.specs.List.{range_with_len}
-use Rattle.plan.specs.Every.{every}
 use Rattle.plan_sheet.proofs.Groups.{from_next}
 
 pub above_next : (s : List ℕ) (i : ℕ) → above_at s ((i + 1) + 2) ≡ mask_at s (i + 2)

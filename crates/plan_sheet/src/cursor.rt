@@ -36,13 +36,10 @@ impl Field<'_> {
     pub(crate) fn number(&self) -> Result<u32, Refusal>
         ensures { MatchResult result (λ v. number self.now.bytes.now ≡ Some v) (λ e. (number self.now.bytes.now ≡ None) × (e ≡ Refusal.NoNumber self.now.line self.now.field)) }
     {
-        let Some(value) = columns::number_in(self.bytes) else {
-            return Err(Refusal::NoNumber {
-                line: self.line,
-                field: self.field,
-            });
-        };
-        Ok(value)
+        columns::number_in(self.bytes).ok_or(Refusal::NoNumber {
+            line: self.line,
+            field: self.field,
+        })
     }
 
     pub(crate) fn is_blank(&self) -> bool
@@ -65,10 +62,7 @@ impl Field<'_> {
         ensures { MatchResult result (λ q. (quantity_fault Q.Quantity.allowed self.now.line self.now.field self.now.bytes.now ≡ None) × (Q.Quantity.amount q ≡ worth self.now.bytes.now) × (Q.Quantity.allowed (Q.Quantity.amount q) ≡ true)) (λ e. quantity_fault Q.Quantity.allowed self.now.line self.now.field self.now.bytes.now ≡ Some e) }
     {
         let number = self.number()?;
-        let Some(quantity) = Q::of(number) else {
-            return Err(self.out_of_range());
-        };
-        Ok(quantity)
+        Q::of(number).ok_or(self.out_of_range())
     }
 
     // The trustee in it, or none where it is blank.
@@ -79,7 +73,7 @@ impl Field<'_> {
             return Ok(None);
         }
         let value = self.number()?;
-        if value < 1 || value > trustees as u32 {
+        if !(1..=trustees as u32).contains(&value) {
             return Err(self.out_of_range());
         }
         Ok(Some(value as u8))
@@ -169,10 +163,9 @@ impl Cursor<'_> {
             let trustee = self.next(3).trustee(trustees)?;
             tally = tally.with(trustee);
         }
-        let Some(mask) = tally.above(above) else {
-            return Err(Refusal::Members { line: self.line });
-        };
-        Ok(mask)
+        tally
+            .above(above)
+            .ok_or(Refusal::Members { line: self.line })
     }
 }
 

@@ -37,10 +37,5 @@ fn put_group(text: &mut String, group: &Group) -> Result<(), AllocError>
 pub(crate) fn refusal(heap: Global, refusal: &Refusal) -> Result<String, AllocError>
     ensures { IfOk result (λ t. string_bytes t ≡ refused refusal.now) }
 {
-    format!(in heap;
-        "{:>6}{:>6}{:>6}\n",
-        refusal.number(),
-        refusal.line(),
-        refusal.field()
-    )
+    format!(in heap; "{refusal}\n")
 }

@@ -24,11 +24,7 @@ impl<const MOST: u32> Quantity for UpTo<MOST> {
     ghost amount = { λ q. q.0 };
 
     fn of(number: u32) -> Option<UpTo<MOST>> {
-        if (1..=MOST).contains(&number) {
-            Some(UpTo(number))
-        } else {
-            None
-        }
+        (1..=MOST).contains(&number).then_some(UpTo(number))
     }
 }
 

@@ -1,5 +1,4 @@
-use Rattle.std.proofs.Common.{◌∷◌, [], ◌++◌, string_bytes, ap, ◌∙◌, append_assoc, append-nil}
-use Rattle.std.specs.Fmt.{styled_decimal}
+use Rattle.std.proofs.Common.{append_assoc, append-nil}
 use Rattle.plan_sheet.specs.Prints.{group_row}
 use Rattle.plan_sheet.proofs.Pushes.{six, made}
 use Rattle.plan_sheet.proofs.prints.put_group.Goals as goal

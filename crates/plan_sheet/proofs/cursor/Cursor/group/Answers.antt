@@ -2,6 +2,7 @@ use Rattle.std.proofs.Common.{◌≡◌, ◌≤◌, Some, None, is_some, unwrap_
 use Rattle.std.proofs.lemmas.Result.{err_from_is_err_and}
 use Rattle.plan_sheet.specs.declared.refusal.Refusal.TheVariants.{Members}
 use Rattle.plan_sheet.specs.Checks.{entry_fault, worth, field_at}
+use Rattle.plan_sheet.proofs.Pushes.{ok_or_is}
 use Rattle.plan_sheet.proofs.Groups.{going_start, going_at, going_stop, going_next, going_all}
 use Rattle.plan_sheet.proofs.cursor.Cursor.group.Goals as goal
 
@@ -43,16 +44,13 @@ loop-preserved c =
     c.with-tally.ensures.order c.with-tally.ensures.mask (c.with-tally.ensures.below c.args.trustees c.loop.invariant.2.under w.2) in
     (c.next.ensures.moved.0 ∙ i0, c.next.ensures.moved.1 ∙ i1, going_at _ _ _ _ _ _ _ _ (sym c.next.ensures.moved.2) g, omega arith)
 
-pub returns-in_default : goal.returns-in_default
-returns-in_default c =
-    let f : c.loop.self.field ≡ 9 = omega arith in
-    let a = going_all c.args.self.now.sheet.now c.args.self.now.line c.args.trustees c.loop.tally.floor (unwrap_or c.loop.tally.mask 0) c.args.above (is_some c.loop.tally.mask) (going_at _ _ _ _ _ _ _ _ f c.loop.invariant.2) c.requires.above in
-    record { value = a.1 c.in_default.ensures ∙ ap (λ k. Some (Members k)) (sym c.loop.invariant.1); moved = (c.loop.invariant.0, c.loop.invariant.1) }
-
 pub returns : goal.returns
 returns c =
     let f : c.loop.self.field ≡ 9 = omega arith in
     let a = going_all c.args.self.now.sheet.now c.args.self.now.line c.args.trustees c.loop.tally.floor (unwrap_or c.loop.tally.mask 0) c.args.above (is_some c.loop.tally.mask) (going_at _ _ _ _ _ _ _ _ f c.loop.invariant.2) c.requires.above in
-    let r = c.in-Some.ensures in
-    let z = a.0 r.0 in
-    record { value = (z.0, r.1 ∙ z.1, omega (arith, r.1, z.2), omega (arith, r.1, z.3)); moved = (c.loop.invariant.0, c.loop.invariant.1) }
+    record {
+      value = ok_or_is c.above.result (Members c.loop.self.line) c.ok_or.result _ _ c.ok_or.ensures.value
+          (λ n. a.1 (rw n at c.above.ensures) ∙ ap (λ k. Some (Members k)) (sym c.loop.invariant.1))
+          (λ m s. let r = rw s at c.above.ensures in let z = a.0 r.0 in (z.0, r.1 ∙ z.1, omega (arith, r.1, z.2), omega (arith, r.1, z.3)));
+      moved = (c.loop.invariant.0, c.loop.invariant.1);
+    }

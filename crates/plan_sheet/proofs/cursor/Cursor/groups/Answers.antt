@@ -1,4 +1,4 @@
-use Rattle.std.proofs.Common.{◌≡◌, ◌+◌, length, sym, refl, ap, ◌∙◌, replicate, arith}
+use Rattle.std.proofs.Common.{◌≡◌, ◌+◌, sym, refl, ap, ◌∙◌, replicate, arith}
 use Rattle.std.proofs.lemmas.Result.{err_from_is_err_and}
 use Rattle.plan_sheet.specs.Checks.{line_fault, above_at, mask_at, n_of}
 use Rattle.plan_sheet.proofs.Lines.{lining_first, lining_stop, lining_next, lining_all, taken_length, kept_length, at_line}
