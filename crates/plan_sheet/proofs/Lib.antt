@@ -9,5 +9,6 @@ pub mod Tables
 pub mod Places
 pub mod Completeness
 pub mod Told
+pub mod Chosen
 pub mod Pushes
 pub mod Headings

@@ -1,8 +1,7 @@
 -- Text that grows by rows of numbers.
-use Rattle.std.proofs.Common.{◌≡◌, ℕ, zero, suc, ◌+◌, ◌-◌, ◌≤◌, ◌<◌, List, [], ◌∷◌, ◌++◌, map, length, get_or, decimal, IfOk, Ok, Err, Result, Option, Some, None, MatchResult, zero-add, refl, ap, ◌∙◌, append-nil, arith}
+use Rattle.std.proofs.Common.{◌≡◌, ℕ, zero, suc, ◌+◌, ◌-◌, ◌≤◌, ◌<◌, List, [], ◌∷◌, ◌++◌, map, length, get_or, decimal, IfOk, Ok, Err, Result, zero-add, refl, ap, ◌∙◌, append-nil, arith}
 use lib.Utf8.{encode}
 use Rattle.std.specs.Fmt.{format_spec, styled_decimal, padded_integral, char_count}
-use Rattle.std.specs.Option.{ok_or}
 use Rattle.std.specs.List.{flat_map, range_with_len, repeat}
 use Rattle.std.proofs.lemmas.List.{length-map, get_or_default}
 use Rattle.std.proofs.lemmas.List.FromFn.{length-range_with_len, get_or-range_with_len}
@@ -53,8 +52,3 @@ group_in p k g l e =
     let is : g ≡ group_of q k = e ∙ get_or_default (groups q) k g (group_of q 0) l ∙ get_or-map (group_of q) ns k 0 ∙ ap (group_of q) (get_or-range_with_len 0 (length q.masks) k 0 low ∙ zero-add k) in
     let keys = range_within q k (omega (arith, groups_least p.groups p.groups_in)) (omega (arith, p.keys_for_all)) low in
     (omega (arith, ap (λ x. x.count) is, keys.0), omega (arith, ap (λ x. x.first) is, ap (λ x. x.count) is, keys.1, keys_most p.height))
-
--- `ok_or`, by what is known of the option
-pub ok_or_is : {A E : Type 0} (o : Option A) (e : E) (r : Result A E) (P : A → Type 0) (Q : E → Type 0) → r ≡ ok_or o e → (o ≡ None → Q e) → ((x : A) → o ≡ Some x → P x) → MatchResult r P Q
-ok_or_is None e r P Q is none some = rw is (none refl)
-ok_or_is (Some x) e r P Q is none some = rw is (some x refl)

@@ -170,7 +170,7 @@ impl Cursor<'_> {
 }
 
 impl Cursor<'_> {
-    // The masks of all group lines.
+    // The masks of all group lines, at the front of an array, since reading a sheet needs no heap.
     pub(crate) fn groups(&mut self, trustees: u8, groups: usize) -> Result<[u8; 70], Refusal>
         requires place { (self.old.line ≡ 1) × ((25 * (groups + 1) ≤ length self.old.sheet.now) × (groups ≤ 70)) }
         requires trustees { (trustees ≤ 8) × (trustees ≡ n_of self.old.sheet.now) }

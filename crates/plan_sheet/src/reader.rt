@@ -31,10 +31,8 @@ pub fn read(sheet: &[u8]) -> Result<Plan, Refusal>
     }
     let masks = cursor.groups(heading.trustees, heading.groups)?;
     let masks = &masks[0..heading.groups];
-    match Plan::new(heading.trustees, heading.height, heading.width, masks) {
-        Some(plan) => Ok(plan),
-        None => unreachable(),
-    }
+    let plan = Plan::new(heading.trustees, heading.height, heading.width, masks);
+    Ok(plan.unwrap())
 }
 
 // Whether the sheet has whole lines, at least two, each with its line feed.

@@ -2,7 +2,7 @@ use Rattle.std.proofs.Common.{◌≡◌, ◌≤◌, Some, None, is_some, unwrap_
 use Rattle.std.proofs.lemmas.Result.{err_from_is_err_and}
 use Rattle.plan_sheet.specs.declared.refusal.Refusal.TheVariants.{Members}
 use Rattle.plan_sheet.specs.Checks.{entry_fault, worth, field_at}
-use Rattle.plan_sheet.proofs.Pushes.{ok_or_is}
+use Rattle.plan_sheet.proofs.Chosen.{ok_or_is}
 use Rattle.plan_sheet.proofs.Groups.{going_start, going_at, going_stop, going_next, going_all}
 use Rattle.plan_sheet.proofs.cursor.Cursor.group.Goals as goal
 

@@ -1,7 +1,7 @@
 use Rattle.std.proofs.Common.{Some, sym, ap, ◌∙◌}
 use Rattle.std.proofs.lemmas.Result.{err_from_is_err_and}
 use Rattle.plan_sheet.specs.Checks.{quantity_fault}
-use Rattle.plan_sheet.proofs.Pushes.{ok_or_is}
+use Rattle.plan_sheet.proofs.Chosen.{ok_or_is}
 use Rattle.plan_sheet.proofs.Headings.{quantity_in, quantity_out, worth_is}
 use Rattle.plan_sheet.proofs.cursor.Field.quantity.Goals as goal
 
