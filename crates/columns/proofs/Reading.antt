@@ -1,35 +1,33 @@
--- Steps of the loops that read a field.
-use Rattle.std.proofs.Common.{◌≡◌, ℕ, ◌+◌, ◌-◌, ◌*◌, ◌^◌, ◌<◌, ◌≤◌, true, cond, ◌&&◌, eqb, List, ◌∷◌, length, get_or, drop, sym, ◌∙◌, arith}
-use native.Mathlib.Nat.{pow-le-pow_right}
+-- What the chains that read a field give.
+use Rattle.std.proofs.Common.{◌≡◌, ℕ, suc, ◌+◌, ◌-◌, ◌≤◌, ◌<◌, Bool, true, false, cond, not, ◌&&◌, eqb, ltb, List, [], ◌∷◌, length, take, drop, Some, None, Option, unwrap_or, sym, refl, ap, ◌∙◌, ⊎_elim, arith}
 use Rattle.std.specs.Str.{all_ascii_digits}
 use Rattle.std.specs.Char.{is_ascii_digit}
-use Rattle.std.proofs.lemmas.List.{at_drop_more}
-use Rattle.std.proofs.lemmas.Bool.{eq-eqb, ne_eqb, cond-true, cond-false, and_parts, leb-true}
-use Rattle.std.proofs.lemmas.Nat.{pow-add}
-use Rattle.columns.specs.Number.{unpadded, read_on}
+use Rattle.std.specs.List.{list_all, position_or_len}
+use Rattle.std.proofs.lemmas.Bool.{cond-true, cond-false, cases_lt, lt-ltb, le-ltb}
+use Rattle.std.proofs.lemmas.List.{take_rest, drop_all}
+use Rattle.columns.specs.Number.{unpadded}
 
-module _ (xs : List ℕ) (i : ℕ) (h : i < length xs) where
-  pub space_more : get_or xs i 0 ≡ 32 → unpadded (drop i xs) ≡ unpadded (drop (i + 1) xs)
-  space_more e = let s : unpadded (drop i xs) ≡ cond (eqb (get_or xs i 0) 32) (unpadded (drop (i + 1) xs)) (get_or xs i 0 ∷ drop (i + 1) xs) = at_drop_more unpadded xs i 0 h in s ∙ cond-true _ _ _ (eq-eqb _ _ e)
+pub digits_all : (xs : List ℕ) → list_all is_ascii_digit xs ≡ all_ascii_digits xs
+digits_all [] = refl
+digits_all (x ∷ xs) = ap (λ b. is_ascii_digit x && b) (digits_all xs)
 
-  pub space_ends : (get_or xs i 0 ≡ 32 → ⊥) → unpadded (drop i xs) ≡ drop i xs
-  space_ends ne = let s : unpadded (drop i xs) ≡ cond (eqb (get_or xs i 0) 32) (unpadded (drop (i + 1) xs)) (get_or xs i 0 ∷ drop (i + 1) xs) = at_drop_more unpadded xs i 0 h in s ∙ cond-false _ _ _ (ne_eqb _ _ ne) ∙ sym (at_drop_more (λ ys. ys) xs i 0 h)
+abbrev pub blanks : List ℕ → ℕ
+blanks xs = position_or_len (λ x. not (eqb x 32)) xs
 
-  pub digits_more : all_ascii_digits (drop i xs) ≡ (is_ascii_digit (get_or xs i 0) && all_ascii_digits (drop (i + 1) xs))
-  digits_more = at_drop_more all_ascii_digits xs i 0 h
+dropped : (xs : List ℕ) → drop (blanks xs) xs ≡ unpadded xs
+dropped [] = refl
+dropped (x ∷ xs) = step (dropped xs) (eqb x 32)
+  where
+    step : drop (blanks xs) xs ≡ unpadded xs → (blank : Bool) → drop (cond (not (not blank)) (1 + blanks xs) 0) (x ∷ xs) ≡ cond blank (unpadded xs) (x ∷ xs)
+    step rest true = let s : 1 + blanks xs ≡ suc (blanks xs) = omega arith in ap (λ k. drop k (x ∷ xs)) s ∙ rest
+    step rest false = refl
 
-  pub read_more : (n : ℕ) → read_on n (drop i xs) ≡ read_on (n * 10 + (get_or xs i 0 - 48)) (drop (i + 1) xs)
-  read_more n = at_drop_more (read_on n) xs i 0 h
-
-pub ten_more : (i : ℕ) → 10 ^ (i + 1) ≡ 10 ^ i * 10
-ten_more i = pow-add 10 i 1
-
-pub ten_below : (i v : ℕ) → v < 10 ^ i → i < 9 → v < 100000000
-ten_below i v h l = let p : 10 ^ i ≤ 10 ^ 8 = pow-le-pow_right (omega arith) {i = i} {j = 8} (omega arith) in omega arith
-
--- a digit read, and the rest are digits still
-pub digit_next : (xs : List ℕ) (i : ℕ) → i < length xs → all_ascii_digits (drop i xs) ≡ true → ((48 ≤ get_or xs i 0) × (get_or xs i 0 ≤ 57)) × (all_ascii_digits (drop (i + 1) xs) ≡ true)
-digit_next xs i h a =
-    let p = and_parts _ _ (sym (digits_more xs i h) ∙ a) in
-    let q = and_parts _ _ p.0 in
-    ((leb-true _ _ q.0, leb-true _ _ q.1), p.1)
+pub behind_blanks : (xs : List ℕ) (found : Option ℕ) (n : ℕ) → found ≡ cond (ltb (blanks xs) (length xs)) (Some (blanks xs)) None → n ≡ unwrap_or found (length xs) → take (length xs - n) (drop n xs) ≡ unpadded xs
+behind_blanks xs found n e is =
+    take_rest xs n
+    ∙ ⊎_elim
+    (λ (l : blanks xs < length xs). ap (λ k. drop k xs) (is ∙ ap (λ o. unwrap_or o (length xs)) (e ∙ cond-true _ _ _ (lt-ltb _ _ l))) ∙ dropped xs)
+    (λ (l : length xs ≤ blanks xs).
+    let none : n ≡ length xs = is ∙ ap (λ o. unwrap_or o (length xs)) (e ∙ cond-false _ _ _ (le-ltb _ _ l)) in
+    drop_all n xs (omega arith) ∙ sym (drop_all (blanks xs) xs l) ∙ dropped xs)
+    (cases_lt (blanks xs) (length xs))

@@ -1,6 +1,7 @@
 pub mod Fields
 pub mod Groups
 pub mod Lines
+pub mod Cut
 pub mod Cells
 pub mod Law
 pub mod Soundness
@@ -8,5 +9,6 @@ pub mod Tables
 pub mod Places
 pub mod Completeness
 pub mod Told
+pub mod Chosen
 pub mod Pushes
 pub mod Headings

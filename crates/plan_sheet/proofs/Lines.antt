@@ -1,23 +1,13 @@
 -- The steps of the loops over the lines of a sheet.
-use Rattle.std.proofs.Common.{◌≡◌, ℕ, ◌+◌, ◌-◌, ◌*◌, ◌^◌, ◌<◌, ◌≤◌, Bool, true, false, ◌&&◌, eqb, leb, List, ◌∷◌, map, length, get_or, set, Some, None, Option, sym, refl, ap, ◌∙◌, subst, ⊎_elim, arith}
-use Rattle.std.proofs.lemmas.List.{get_or-set_same, get_or-set_other, length-set}
+use Rattle.std.proofs.Common.{◌≡◌, ℕ, ◌+◌, ◌-◌, ◌^◌, ◌<◌, ◌≤◌, Bool, true, false, ◌&&◌, eqb, leb, List, ◌∷◌, ◌++◌, map, length, get_or, set, take, drop, Some, None, Option, sym, refl, ap, ◌∙◌, subst, ⊎_elim, arith}
+use Rattle.std.proofs.lemmas.List.{get_or_append_left, get_or-set_same, get_or-set_other, length-set, length-take-le, length-append, length-drop}
 use Rattle.std.proofs.lemmas.Bool.{ne_eqb, cond-false, cases_eq, and_parts, eqb-true, leb-true}
 use Rattle.plan_sheet.specs.declared.refusal.Refusal.{Refusal}
 use Rattle.plan.specs.Shape.{Within, Rising}
 use Rattle.plan_sheet.specs.declared.refusal.Refusal.TheVariants.{Layout, Groups}
-use Rattle.plan_sheet.specs.Checks.{first, check, fed, formed, line_fault, line_count, mask_at, above_at, Lined, heading_faults, groups_fault, fault_of, m_of, h_of}
+use Rattle.plan_sheet.specs.Checks.{first, check, formed, line_fault, line_count, mask_at, above_at, Lined, heading_faults, groups_fault, fault_of, m_of, h_of}
 use Rattle.std.specs.List.{range_with_len}
-use Rattle.plan.specs.Every.{every}
 use Rattle.plan_sheet.proofs.Groups.{from_next}
-
--- one line more of k
-pub fed_next : (s : List ℕ) (i k : ℕ) → 1 ≤ k → every (fed s) (range_with_len (i + 1) k) ≡ (eqb (get_or s (25 * i + 24) 0) 10 && every (fed s) (range_with_len ((i + 1) + 1) (k - 1)))
-fed_next s i k h =
-    let e : (i + 1) - 1 ≡ i = omega arith in
-    ap (every (fed s)) (from_next (i + 1) k h) ∙ ap (λ j. eqb (get_or s (25 * j + 24) 0) 10 && every (fed s) (range_with_len ((i + 1) + 1) (k - 1))) e
-
-pub above_first : (s : List ℕ) → above_at s 2 ≡ 0
-above_first s = refl
 
 pub above_next : (s : List ℕ) (i : ℕ) → above_at s ((i + 1) + 2) ≡ mask_at s (i + 2)
 above_next s i =
@@ -27,14 +17,14 @@ above_next s i =
 -- i of m group lines are read
 pub record Lining (s : List ℕ) (n m i line above : ℕ) (masks : List ℕ) : Type 0 where
   pub at : line ≡ i + 1
-  pub long : length masks ≡ 70
+  pub long : m ≤ length masks
   pub faults : first (map (line_fault s) (range_with_len 2 m)) ≡ first (map (line_fault s) (range_with_len (i + 2) (m - i)))
   pub last : above ≡ above_at s (i + 2)
   pub each : (g : ℕ) → g < i → get_or masks g 0 ≡ mask_at s (g + 2)
   pub within : Within (2 ^ n) i masks
   pub rising : Rising i masks
 
-pub lining_first : (s : List ℕ) (n m line : ℕ) (masks : List ℕ) → line ≡ 1 → length masks ≡ 70 → Lining s n m 0 line 0 masks
+pub lining_first : (s : List ℕ) (n m line : ℕ) (masks : List ℕ) → line ≡ 1 → m ≤ length masks → Lining s n m 0 line 0 masks
 lining_first s n m line masks e l = record {
   at = e;
   long = l;
@@ -55,15 +45,15 @@ module _ (s : List ℕ) (n m i line above : ℕ) (masks : List ℕ) (z : Lining 
   pub lining_stop : (e : Refusal) → line_fault s (i + 2) ≡ Some e → first (map (line_fault s) (range_with_len 2 m)) ≡ Some e
   lining_stop e f = lining_split ∙ ap (λ o. first (o ∷ map (line_fault s) (range_with_len ((i + 1) + 2) (m - (i + 1))))) f
 
-  pub lining_next : i < 70 → line_fault s (i + 2) ≡ None → (mask : ℕ) → mask ≡ mask_at s (i + 2) → above < mask → mask < 2 ^ n
+  pub lining_next : line_fault s (i + 2) ≡ None → (mask : ℕ) → mask ≡ mask_at s (i + 2) → above < mask → mask < 2 ^ n
       → (line' : ℕ) → line' ≡ line + 1 → Lining s n m (i + 1) line' mask (set masks i mask)
-  lining_next i70 f mask me lt un line' le =
+  lining_next f mask me lt un line' le =
       let in_range : i < length masks = omega (arith, z.long) in
       let here : get_or (set masks i mask) i 0 ≡ mask = get_or-set_same masks i mask 0 in_range in
       let there : (g : ℕ) → g < i → get_or (set masks i mask) g 0 ≡ get_or masks g 0 = λ g l. get_or-set_other masks i g mask 0 (λ e. omega arith) in
       record {
         at = omega (arith, z.at);
-        long = length-set masks i mask ∙ z.long;
+        long = omega (arith, length-set masks i mask, z.long);
         faults = lining_split ∙ ap (λ o. first (o ∷ map (line_fault s) (range_with_len ((i + 1) + 2) (m - (i + 1))))) f;
         last = me ∙ sym (above_next s i);
         each = λ g l. ⊎_elim (λ (e : g ≡ i). subst (λ x. get_or (set masks i mask) x 0 ≡ mask_at s (x + 2)) (sym e) (here ∙ me)) (λ (ne : g ≡ i → ⊥). there g (omega arith) ∙ z.each g (omega arith)) (cases_eq g i);
@@ -71,15 +61,25 @@ module _ (s : List ℕ) (n m i line above : ℕ) (masks : List ℕ) (z : Lining 
         rising = λ g l. ⊎_elim (λ (e : g + 1 ≡ i). subst (λ x. get_or (set masks i mask) g 0 < get_or (set masks i mask) x 0) (sym e) (omega (arith, here, there g (omega arith), z.each g (omega arith), z.last, subst (λ x. above_at s (x + 2) ≡ mask_at s (g + 2)) e (above_next s g)))) (λ (ne : g + 1 ≡ i → ⊥). omega (arith, there g (omega arith), there (g + 1) (omega arith), z.rising g (omega arith))) (cases_eq (g + 1) i);
       }
 
-pub lining_all : (s : List ℕ) (n m i line above : ℕ) (masks : List ℕ) → Lining s n m i line above masks → i ≡ m → Lined s n m masks
-lining_all s n m i line above masks z e =
+-- the masks of m lines, written to the front of some
+pub taken_length : (m : ℕ) (masks : List ℕ) → m ≤ length masks → length (take (m - 0) (drop 0 masks)) ≡ m
+taken_length m masks h = let e : m - 0 ≡ m = omega arith in ap (λ k. length (take k masks)) e ∙ length-take-le m masks h
+
+pub kept_length : (m : ℕ) (masks front : List ℕ) → m ≤ length masks → length front ≡ m → length (front ++ drop (m - 0) (drop 0 masks)) ≡ length masks
+kept_length m masks front h l =
+    let e : m - 0 ≡ m = omega arith in
+    length-append front (drop (m - 0) (drop 0 masks)) ∙ omega (arith, ap (λ k. length (drop k masks)) e, length-drop m masks)
+
+pub lining_all : (s : List ℕ) (n m i line above : ℕ) (masks rest all : List ℕ) → Lining s n m i line above masks → i ≡ m → all ≡ masks ++ rest → length all ≡ 70 → Lined s n m all
+lining_all s n m i line above masks rest all z e is long =
     let k : m - i ≡ 0 = omega arith in
+    let front : (g : ℕ) → g < m → get_or all g 0 ≡ get_or masks g 0 = λ g h. ap (λ x. get_or x g 0) is ∙ get_or_append_left masks rest 0 g (omega (arith, z.long)) in
     record {
       faultless = z.faults ∙ ap (λ j. first (map (line_fault s) (range_with_len (i + 2) j))) k;
-      each = λ g h. z.each g (omega arith);
-      within = λ g h. z.within g (omega arith);
-      rising = λ g h. z.rising g (omega arith);
-      long = z.long;
+      each = λ g h. front g h ∙ z.each g (omega arith);
+      within = λ g h. (omega (arith, front g h, (z.within g (omega arith)).0), omega (arith, front g h, (z.within g (omega arith)).1));
+      rising = λ g h. omega (arith, front g (omega arith), front (g + 1) h, z.rising g (omega arith));
+      long = long;
     }
 
 -- the four parts of a sheet's fault, in their order

@@ -1,36 +1,54 @@
--- Text that grows by one piece after another.
-use Rattle.std.proofs.Common.{◌≡◌, ℕ, zero, suc, ◌+◌, ◌-◌, ◌≤◌, cond, List, [], ◌∷◌, ◌++◌, is_ok, IfOk, Ok, Err, Result, sym, ap, ◌∙◌, append_assoc, arith}
-use Rattle.std.proofs.lemmas.List.{append-nil, replicate_more}
-use Rattle.std.specs.List.{flat_map, range_with_len}
+-- Text that grows by rows of numbers.
+use Rattle.std.proofs.Common.{◌≡◌, ℕ, zero, suc, ◌+◌, ◌-◌, ◌≤◌, ◌<◌, List, [], ◌∷◌, ◌++◌, map, length, get_or, decimal, IfOk, Ok, Err, Result, zero-add, refl, ap, ◌∙◌, append-nil, arith}
+use lib.Utf8.{encode}
+use Rattle.std.specs.Fmt.{format_spec, styled_decimal, padded_integral, char_count}
+use Rattle.std.specs.List.{flat_map, range_with_len, repeat}
+use Rattle.std.proofs.lemmas.List.{length-map, get_or_default}
+use Rattle.std.proofs.lemmas.List.FromFn.{length-range_with_len, get_or-range_with_len}
+use Rattle.std.proofs.Math.ListN.{get_or-map}
+use Rattle.plan.specs.declared.group.Group.{Group}
+use Rattle.plan.specs.declared.plans.Plan.{Plan}
+use Rattle.plan.specs.Groups.{group_of, groups}
+use Rattle.plan.specs.View.{view}
+use Rattle.plan.proofs.Found.{view_groups, range_within, keys_most}
+use Rattle.plan_sheet.proofs.Fields.{groups_least}
 use Rattle.columns.specs.Number.{spaces, right}
 
-pub made_pushed : {T E : Type 0} (r : Result T E) (was ys now goal : List ℕ) → now ≡ cond (is_ok r) (was ++ ys) was → was ++ ys ≡ goal → IfOk r (λ _. now ≡ goal)
-made_pushed (Ok x) was ys now goal e g = e ∙ g
-made_pushed (Err x) was ys now goal e g = tt
+repeated : (n : ℕ) → repeat n (32 ∷ []) ≡ spaces n
+repeated zero = refl
+repeated (suc n) = ap (λ xs. 32 ∷ xs) (repeated n)
 
-pub space_pushed : (old now was : List ℕ) (a b : ℕ) → a ≤ b → was ≡ old ++ spaces (b - a) → now ≡ was ++ 32 ∷ [] → now ≡ old ++ spaces ((b + 1) - a)
-space_pushed old now was a b le w n =
-    let k : (b - a) + 1 ≡ (b + 1) - a = omega arith in
-    n ∙ ap (λ xs. xs ++ 32 ∷ []) w ∙ append_assoc old (spaces (b - a)) (32 ∷ []) ∙ ap (λ xs. old ++ xs) (replicate_more (b - a) 32 ∙ ap spaces k)
+-- a hole `{:>6}`
+pub six : (n : ℕ) → styled_decimal (format_spec 32 3 0 6 18446744073709551615) n ≡ right 6 n
+unfolding padded_integral encode char_count
+six n =
+    let pad = ((6 - length (decimal n)) - 0) - 0 in
+    let none : pad - pad ≡ 0 = omega arith in
+    let same : pad ≡ 6 - length (decimal n) = omega arith in
+    ap (λ j. (((repeat pad (32 ∷ []) ++ []) ++ []) ++ []) ++ (decimal n ++ repeat j (32 ∷ []))) none
+    ∙ ap (λ xs. (((xs ++ []) ++ []) ++ []) ++ (decimal n ++ [])) (repeated pad)
+    ∙ bare (spaces pad) (decimal n)
+    ∙ ap (λ j. spaces j ++ decimal n) same
+  where
+    bare : (xs ys : List ℕ) → (((xs ++ []) ++ []) ++ []) ++ (ys ++ []) ≡ xs ++ ys
+    bare xs ys = simp append-nil
 
-pub field_pushed : (was now : List ℕ) (n v : ℕ) → n ≡ v → now ≡ was ++ right 6 n → now ≡ was ++ right 6 v
-field_pushed was now n v e p = p ∙ ap (λ x. was ++ right 6 x) e
+-- the text that a call makes, where it makes one
+pub made : {T E : Type 0} (text : T → List ℕ) (r : Result T E) (was now : List ℕ) → IfOk r (λ t. text t ≡ was) → was ≡ now → IfOk r (λ t. text t ≡ now)
+made text (Ok x) was now h e = h ∙ e
+made text (Err x) was now h e = tt
 
-pub three_pushed : (t0 t1 t2 t3 a b c : List ℕ) → t1 ≡ t0 ++ a → t2 ≡ t1 ++ b → t3 ≡ t2 ++ c → t3 ++ 10 ∷ [] ≡ t0 ++ ((a ++ (b ++ (c ++ []))) ++ 10 ∷ [])
-three_pushed t0 t1 t2 t3 a b c e1 e2 e3 = ap (λ x. x ++ 10 ∷ []) (e3 ∙ ap (λ x. x ++ c) (e2 ∙ ap (λ x. x ++ b) e1)) ∙ simp (append_assoc, append-nil)
+pub rows_of : {X : Type 0} (row : X → List ℕ) (g : ℕ → X) (ns : List ℕ) → flat_map row (map g ns) ≡ flat_map (λ n. row (g n)) ns
+rows_of row g [] = refl
+rows_of row g (n ∷ ns) = ap (λ xs. row (g n) ++ xs) (rows_of row g ns)
 
-pub four_pushed : (t0 t1 t2 t3 t4 a b c d : List ℕ) → t1 ≡ t0 ++ a → t2 ≡ t1 ++ b → t3 ≡ t2 ++ c → t4 ≡ t3 ++ d → t4 ++ 10 ∷ [] ≡ t0 ++ ((a ++ (b ++ (c ++ (d ++ [])))) ++ 10 ∷ [])
-four_pushed t0 t1 t2 t3 t4 a b c d e1 e2 e3 e4 = three_pushed t0 t1 t2 t4 a b (c ++ d) e1 e2 (e4 ∙ ap (λ x. x ++ d) e3 ∙ append_assoc t2 c d) ∙ simp (append_assoc, append-nil)
-
-pub from_more : (F : ℕ → List ℕ) (a k : ℕ) → flat_map F (range_with_len a (k + 1)) ≡ flat_map F (range_with_len a k) ++ F (a + k)
-from_more F a zero = let z : a ≡ a + 0 = omega arith in append-nil (F a) ∙ ap F z
-from_more F a (suc k) =
-    let e : suc k + 1 ≡ suc (k + 1) = omega arith in
-    let z : (a + 1) + k ≡ a + suc k = omega arith in
-    ap (λ j. flat_map F (range_with_len a j)) e ∙ ap (λ xs. F a ++ xs) (from_more F (a + 1) k ∙ ap (λ x. flat_map F (range_with_len (a + 1) k) ++ F x) z) ∙ sym (append_assoc (F a) (flat_map F (range_with_len (a + 1) k)) (F (a + suc k)))
-
-pub rows_more : (F : ℕ → List ℕ) (k : ℕ) (was now : List ℕ) → was ≡ flat_map F (range_with_len 0 k) → now ≡ was ++ F k → now ≡ flat_map F (range_with_len 0 (k + 1))
-rows_more F k was now w n = let z : k ≡ 0 + k = omega arith in n ∙ ap (λ xs. xs ++ F k) w ∙ ap (λ x. flat_map F (range_with_len 0 k) ++ F x) z ∙ sym (from_more F 0 k)
-
-pub last_row : (all t0 t1 t2 a : List ℕ) → t0 ≡ all → t1 ≡ t0 ++ a → t2 ≡ t1 ++ 10 ∷ [] → t2 ≡ all ++ ((a ++ []) ++ 10 ∷ [])
-last_row all t0 t1 t2 a e0 e1 e2 = e2 ∙ ap (λ x. x ++ 10 ∷ []) (e1 ∙ ap (λ x. x ++ a) e0) ∙ simp (append_assoc, append-nil)
+-- a group that comes has keys, and few enough
+pub group_in : (p : Plan) (k : ℕ) (g : Group) → k < length (groups (view p)) → g ≡ get_or (groups (view p)) k g → (1 ≤ g.count) × (g.first + g.count ≤ 1000000)
+group_in p k g l e =
+    let q = view p in
+    let all = view_groups p in
+    let ns = range_with_len 0 (length q.masks) in
+    let low : k < length q.masks = omega (arith, length-map ns (group_of q), length-range_with_len 0 (length q.masks)) in
+    let is : g ≡ group_of q k = e ∙ get_or_default (groups q) k g (group_of q 0) l ∙ get_or-map (group_of q) ns k 0 ∙ ap (group_of q) (get_or-range_with_len 0 (length q.masks) k 0 low ∙ zero-add k) in
+    let keys = range_within q k (omega (arith, groups_least p.groups p.groups_in)) (omega (arith, p.keys_for_all)) low in
+    (omega (arith, ap (λ x. x.count) is, keys.0), omega (arith, ap (λ x. x.first) is, ap (λ x. x.count) is, keys.1, keys_most p.height))

@@ -1,5 +1,5 @@
 -- What the program prints.
-use Rattle.std.specs.Prelude.{ℕ, ◌+◌, ◌-◌, cond, List, [], ◌∷◌, ◌++◌, length, Some, None, Option, nat_lt}
+use Rattle.std.specs.Prelude.{ℕ, ◌+◌, ◌-◌, Bool, true, false, cond, List, [], ◌∷◌, ◌++◌, length, Some, None, Option, nat_lt, string_bytes}
 use Rattle.std.specs.List.{range_with_len, flat_map}
 use Rattle.plan.specs.declared.group.Group.{Group}
 use Rattle.plan.specs.Shape.{Shape}
@@ -8,6 +8,8 @@ use Rattle.plan.specs.Keys.{undealt}
 use Rattle.plan.specs.Groups.{group_of}
 use Rattle.plan_sheet.specs.declared.refusal.Refusal.{Refusal}
 use Rattle.plan_sheet.specs.declared.refusal.Refusal.TheVariants.{Layout}
+use Rattle.plan_sheet.specs.declared.report.Report.{Report}
+use Rattle.plan_sheet.specs.declared.report.Report.TheVariants.{Ranges, Refused}
 use Rattle.columns.specs.Number.{right}
 use Rattle.plan_sheet.specs.Refusals.{number_of, line_of, field_of}
 use Rattle.plan_sheet.specs.Checks.{fault_of}
@@ -40,3 +42,12 @@ answer_to (Some e) input = refused e
 -- all that the program prints
 abbrev pub answer : List ℕ → List ℕ
 answer input = answer_to (input_fault input) input
+
+-- the text of a report, and whether it is a plan's
+abbrev pub text_of : Report → List ℕ
+text_of (Ranges text) = string_bytes text
+text_of (Refused text) = string_bytes text
+
+abbrev pub has_ranges : Report → Bool
+has_ranges (Ranges text) = true
+has_ranges (Refused text) = false

@@ -1,5 +1,7 @@
 -- Each refusal's public number, and the line and field that it names.
-use Rattle.std.specs.Prelude.{ℕ}
+use Rattle.std.specs.Prelude.{ℕ, List, [], ◌∷◌}
+use Rattle.std.specs.List.{flat_map}
+use Rattle.columns.specs.Number.{right}
 use Rattle.plan_sheet.specs.declared.refusal.Refusal.{Refusal}
 use Rattle.plan_sheet.specs.declared.refusal.Refusal.TheVariants.{Layout, NoNumber, OutOfRange, Members, Groups}
 
@@ -23,3 +25,7 @@ field_of (NoNumber line field) = field
 field_of (OutOfRange line field) = field
 field_of (Members line) = 0
 field_of Groups = 4
+
+-- how it is printed: the three, in fields of 6
+abbrev pub places : Refusal → List ℕ
+places e = flat_map (right 6) (number_of e ∷ line_of e ∷ field_of e ∷ [])

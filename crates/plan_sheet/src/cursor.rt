@@ -7,17 +7,19 @@ ghost use Rattle.plan_sheet.specs.Checks.{first, line_fault, mask_at, above_at, 
 ghost use Rattle.std.specs.List.{range_with_len};
 ghost use Rattle.sizes.specs.Sizes.{levels, bits};
 
-use crate::quantities::{Groups, Quantity, Trustees};
+use crate::quantities::{Quantity, UpTo};
 use crate::refusal::Refusal;
 use crate::tally::Tally;
 use sizes::{Height, Width};
 
-// Line and field count from 1.
+// Line and field count from 1. The line is one of the sheet's, and the field is at most one behind its last.
 #[derive(Drop)]
 pub(crate) struct Cursor<'s> {
     sheet: &'s [u8],
     line: usize,
     field: usize,
+    ghost line_in: { (1 ≤ line) × (25 * line ≤ length sheet.now) },
+    ghost field_in: { (1 ≤ field) × (field ≤ 9) },
 }
 
 // A field with its place.
@@ -26,21 +28,18 @@ pub(crate) struct Field<'s> {
     bytes: &'s [u8],
     line: usize,
     field: usize,
+    ghost short: { length bytes.now ≤ 9 },
 }
 
 impl Field<'_> {
     // The number in it.
     pub(crate) fn number(&self) -> Result<u32, Refusal>
-        requires { length self.now.bytes.now ≤ 9 }
         ensures { MatchResult result (λ v. number self.now.bytes.now ≡ Some v) (λ e. (number self.now.bytes.now ≡ None) × (e ≡ Refusal.NoNumber self.now.line self.now.field)) }
     {
-        let Some(value) = columns::number_in(self.bytes) else {
-            return Err(Refusal::NoNumber {
-                line: self.line,
-                field: self.field,
-            });
-        };
-        Ok(value)
+        columns::number_in(self.bytes).ok_or(Refusal::NoNumber {
+            line: self.line,
+            field: self.field,
+        })
     }
 
     pub(crate) fn is_blank(&self) -> bool
@@ -60,26 +59,21 @@ impl Field<'_> {
 
     // The quantity in it, of a heading.
     pub(crate) fn quantity<Q: Quantity>(&self) -> Result<Q, Refusal>
-        requires { length self.now.bytes.now ≤ 9 }
         ensures { MatchResult result (λ q. (quantity_fault Q.Quantity.allowed self.now.line self.now.field self.now.bytes.now ≡ None) × (Q.Quantity.amount q ≡ worth self.now.bytes.now) × (Q.Quantity.allowed (Q.Quantity.amount q) ≡ true)) (λ e. quantity_fault Q.Quantity.allowed self.now.line self.now.field self.now.bytes.now ≡ Some e) }
     {
         let number = self.number()?;
-        let Some(quantity) = Q::of(number) else {
-            return Err(self.out_of_range());
-        };
-        Ok(quantity)
+        Q::of(number).ok_or(self.out_of_range())
     }
 
     // The trustee in it, or none where it is blank.
     pub(crate) fn trustee(&self, trustees: u8) -> Result<Option<u8>, Refusal>
-        requires { length self.now.bytes.now ≤ 9 }
         ensures { MatchResult result (λ t. (entry_faults trustees self.now.line self.now.field self.now.bytes.now ≡ None) × (unwrap_or t 0 ≡ worth self.now.bytes.now) × (unwrap_or t 0 ≤ trustees) × (is_some t ≡ nat_lt 0 (unwrap_or t 0))) (λ e. entry_faults trustees self.now.line self.now.field self.now.bytes.now ≡ Some e) }
     {
         if self.is_blank() {
             return Ok(None);
         }
         let value = self.number()?;
-        if value < 1 || value > trustees as u32 {
+        if !(1..=trustees as u32).contains(&value) {
             return Err(self.out_of_range());
         }
         Ok(Some(value as u8))
@@ -88,6 +82,7 @@ impl Field<'_> {
 
 impl<'s> Cursor<'s> {
     pub(crate) fn new(sheet: &'s [u8]) -> Cursor<'s>
+        requires { 25 ≤ length sheet.now }
         ensures { (result.sheet.now ≡ sheet.now) × (result.line ≡ 1) × (result.field ≡ 1) }
     {
         Cursor {
@@ -99,7 +94,8 @@ impl<'s> Cursor<'s> {
 
     // The next field of some columns.
     pub(crate) fn next(&mut self, columns: usize) -> Field<'s>
-        requires { (1 ≤ self.old.line) × ((25 * self.old.line ≤ length self.old.sheet.now) × ((1 ≤ self.old.field) × ((columns * self.old.field ≤ 24) × (self.old.field ≤ 8)))) }
+        requires short { columns ≤ 9 }
+        requires field { (columns * self.old.field ≤ 24) × (self.old.field ≤ 8) }
         ensures bytes { result.bytes.now ≡ field_at columns self.old.sheet.now self.old.line self.old.field }
         ensures len { length result.bytes.now ≡ columns }
         ensures place { (result.line ≡ self.old.line) × (result.field ≡ self.old.field) }
@@ -117,7 +113,7 @@ impl<'s> Cursor<'s> {
     }
 
     pub(crate) fn next_line(&mut self)
-        requires { self.old.line < 1000000000 }
+        requires { 25 * (self.old.line + 1) ≤ length self.old.sheet.now }
         ensures { (self.new.sheet.now ≡ self.old.sheet.now) × (self.new.line ≡ self.old.line + 1) × (self.new.field ≡ 1) }
     {
         self.line += 1;
@@ -126,8 +122,8 @@ impl<'s> Cursor<'s> {
 
     // The next quantity of the heading.
     pub(crate) fn quantity<Q: Quantity>(&mut self) -> Result<Q, Refusal>
-        requires line { (self.old.line ≡ 1) × (25 ≤ length self.old.sheet.now) }
-        requires field { (1 ≤ self.old.field) × (self.old.field ≤ 4) }
+        requires line { self.old.line ≡ 1 }
+        requires field { self.old.field ≤ 4 }
         ensures value { MatchResult result (λ q. (quantity_fault Q.Quantity.allowed self.old.line self.old.field (field_at 6 self.old.sheet.now self.old.line self.old.field) ≡ None) × (Q.Quantity.amount q ≡ worth (field_at 6 self.old.sheet.now self.old.line self.old.field)) × (Q.Quantity.allowed (Q.Quantity.amount q) ≡ true)) (λ e. quantity_fault Q.Quantity.allowed self.old.line self.old.field (field_at 6 self.old.sheet.now self.old.line self.old.field) ≡ Some e) }
         ensures moved { (self.new.sheet.now ≡ self.old.sheet.now) × (self.new.line ≡ self.old.line) × (self.new.field ≡ self.old.field + 1) }
     {
@@ -136,20 +132,19 @@ impl<'s> Cursor<'s> {
 
     pub(crate) fn heading(&mut self) -> Result<Heading, Refusal>
         requires line { self.old.line ≡ 1 }
-        requires long { 25 ≤ length self.old.sheet.now }
         requires field { self.old.field ≡ 1 }
         ensures value { MatchResult result (λ h. Headed self.old.sheet.now h.trustees (levels h.height) (bits h.width) h.groups) (λ e. first (heading_faults self.old.sheet.now) ≡ Some e) }
         ensures moved { (self.new.sheet.now ≡ self.old.sheet.now) × (self.new.line ≡ self.old.line) }
     {
-        let trustees: Trustees = self.quantity()?;
+        let trustees: UpTo<8> = self.quantity()?;
         let height: Height = self.quantity()?;
         let width: Width = self.quantity()?;
-        let groups: Groups = self.quantity()?;
+        let groups: UpTo<70> = self.quantity()?;
         Ok(Heading {
-            trustees: trustees.0,
+            trustees: trustees.0 as u8,
             height,
             width,
-            groups: groups.0,
+            groups: groups.0 as usize,
         })
     }
 }
@@ -157,26 +152,25 @@ impl<'s> Cursor<'s> {
 impl Cursor<'_> {
     // The mask of a group line, above that of the line before.
     pub(crate) fn group(&mut self, trustees: u8, above: u8) -> Result<u8, Refusal>
-        requires place { (1 ≤ self.old.line) × ((25 * self.old.line ≤ length self.old.sheet.now) × (self.old.field ≡ 1)) }
+        requires field { self.old.field ≡ 1 }
         requires trustees { (trustees ≤ 8) × (trustees ≡ n_of self.old.sheet.now) }
         requires above { above ≡ above_at self.old.sheet.now self.old.line }
         ensures value { MatchResult result (λ m. (line_fault self.old.sheet.now self.old.line ≡ None) × (m ≡ mask_at self.old.sheet.now self.old.line) × (above < m) × (m < 2 ^ trustees)) (λ e. line_fault self.old.sheet.now self.old.line ≡ Some e) }
         ensures moved { (self.new.sheet.now ≡ self.old.sheet.now) × (self.new.line ≡ self.old.line) }
     {
         let mut tally = Tally::new();
-        while self.field <= 8 {
+        for _ in 0..8usize {
             let trustee = self.next(3).trustee(trustees)?;
             tally = tally.with(trustee);
         }
-        let Some(mask) = tally.above(above) else {
-            return Err(Refusal::Members { line: self.line });
-        };
-        Ok(mask)
+        tally
+            .above(above)
+            .ok_or(Refusal::Members { line: self.line })
     }
 }
 
 impl Cursor<'_> {
-    // The masks of all group lines.
+    // The masks of all group lines, at the front of an array, since reading a sheet needs no heap.
     pub(crate) fn groups(&mut self, trustees: u8, groups: usize) -> Result<[u8; 70], Refusal>
         requires place { (self.old.line ≡ 1) × ((25 * (groups + 1) ≤ length self.old.sheet.now) × (groups ≤ 70)) }
         requires trustees { (trustees ≤ 8) × (trustees ≡ n_of self.old.sheet.now) }
@@ -184,10 +178,10 @@ impl Cursor<'_> {
     {
         let mut masks = [0u8; 70];
         let mut above = 0;
-        for group in 0..groups {
+        for mask in &mut masks[0..groups] {
             self.next_line();
             above = self.group(trustees, above)?;
-            masks[group] = above;
+            *mask = above;
         }
         Ok(masks)
     }

@@ -1,7 +1,6 @@
 // The four numbers of a heading, each with its range.
-ghost use Rattle.std.specs.Prelude.{◌≡◌, ℕ, Bool, true, false, MatchOption};
+ghost use Rattle.std.specs.Prelude.{◌≡◌, ℕ, Bool, true, false, ◌&&◌, nat_le, MatchOption};
 ghost use Rattle.sizes.specs.Sizes.{levels, bits, is_height, is_width};
-ghost use Rattle.plan.specs.Shape.{is_trustees, is_groups};
 
 use sizes::{Height, Width};
 
@@ -15,23 +14,17 @@ pub(crate) trait Quantity: Sized {
         ensures { MatchOption result (allowed number ≡ false) (λ q. (allowed number ≡ true) × (amount q ≡ number)) };
 }
 
+// A number from 1 to `MOST`.
 #[derive(Clone, Copy)]
-pub(crate) struct Trustees(pub(crate) u8);
+pub(crate) struct UpTo<const MOST: u32>(pub(crate) u32);
 
-#[derive(Clone, Copy)]
-pub(crate) struct Groups(pub(crate) usize);
-
-impl Quantity for Trustees {
-    ghost allowed = { is_trustees };
+impl<const MOST: u32> Quantity for UpTo<MOST> {
+    ghost allowed = { λ n. nat_le 1 n && nat_le n MOST };
 
     ghost amount = { λ q. q.0 };
 
-    fn of(number: u32) -> Option<Trustees> {
-        if 1 <= number && number <= 8 {
-            Some(Trustees(number as u8))
-        } else {
-            None
-        }
+    fn of(number: u32) -> Option<UpTo<MOST>> {
+        (1..=MOST).contains(&number).then_some(UpTo(number))
     }
 }
 
@@ -41,7 +34,7 @@ impl Quantity for Height {
     ghost amount = { levels };
 
     fn of(number: u32) -> Option<Height> {
-        Height::of(number)
+        Height::try_from(number).ok()
     }
 }
 
@@ -51,20 +44,6 @@ impl Quantity for Width {
     ghost amount = { bits };
 
     fn of(number: u32) -> Option<Width> {
-        Width::of(number)
-    }
-}
-
-impl Quantity for Groups {
-    ghost allowed = { is_groups };
-
-    ghost amount = { λ q. q.0 };
-
-    fn of(number: u32) -> Option<Groups> {
-        if 1 <= number && number <= 70 {
-            Some(Groups(number as usize))
-        } else {
-            None
-        }
+        Width::try_from(number).ok()
     }
 }

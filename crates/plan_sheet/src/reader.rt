@@ -31,10 +31,8 @@ pub fn read(sheet: &[u8]) -> Result<Plan, Refusal>
     }
     let masks = cursor.groups(heading.trustees, heading.groups)?;
     let masks = &masks[0..heading.groups];
-    match Plan::new(heading.trustees, heading.height, heading.width, masks) {
-        Some(plan) => Ok(plan),
-        None => unreachable(),
-    }
+    let plan = Plan::new(heading.trustees, heading.height, heading.width, masks);
+    Ok(plan.unwrap())
 }
 
 // Whether the sheet has whole lines, at least two, each with its line feed.
@@ -48,11 +46,5 @@ fn formed(sheet: &[u8]) -> bool
 fn all_fed(sheet: &[u8]) -> bool
     ensures { result ≡ every (fed sheet.now) (range_with_len 1 (length sheet.now / 25)) }
 {
-    let lines = sheet.len() / 25;
-    for i in 0..lines {
-        if sheet[25 * i + 24] != b'\n' {
-            return false;
-        }
-    }
-    true
+    sheet.chunks_exact(25).all(|line| line[24] == b'\n')
 }

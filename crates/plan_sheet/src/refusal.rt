@@ -1,6 +1,9 @@
 // What is wrong with a plan sheet, and where: lines and fields count from 1.
-ghost use Rattle.std.specs.Prelude.{◌≡◌};
-ghost use Rattle.plan_sheet.specs.Refusals.{number_of, line_of, field_of};
+ghost use Rattle.std.specs.Prelude.{◌≡◌, Some};
+ghost use Rattle.plan_sheet.specs.Refusals.{number_of, line_of, field_of, places};
+
+use std::error::Error;
+use std::fmt;
 
 #[derive(Clone, Copy, PartialEq, Eq, Debug)]
 pub enum Refusal {
@@ -36,9 +39,9 @@ impl Refusal {
     {
         match self {
             Refusal::Layout => 0,
-            Refusal::NoNumber { line, .. } => *line,
-            Refusal::OutOfRange { line, .. } => *line,
-            Refusal::Members { line } => *line,
+            Refusal::NoNumber { line, .. }
+            | Refusal::OutOfRange { line, .. }
+            | Refusal::Members { line } => *line,
             Refusal::Groups => 1,
         }
     }
@@ -48,11 +51,26 @@ impl Refusal {
         ensures { result ≡ field_of self.now }
     {
         match self {
-            Refusal::Layout => 0,
-            Refusal::NoNumber { field, .. } => *field,
-            Refusal::OutOfRange { field, .. } => *field,
-            Refusal::Members { .. } => 0,
+            Refusal::Layout | Refusal::Members { .. } => 0,
+            Refusal::NoNumber { field, .. } | Refusal::OutOfRange { field, .. } => *field,
             Refusal::Groups => 4,
         }
     }
 }
+
+// Its number, line and field, each in six columns.
+impl fmt::Display for Refusal {
+    ghost output = { λ e. Some (places e) };
+
+    fn fmt<W: fmt::Write>(&self, f: &mut fmt::Formatter<W>) -> fmt::Result {
+        write!(
+            f,
+            "{:>6}{:>6}{:>6}",
+            self.number(),
+            self.line(),
+            self.field()
+        )
+    }
+}
+
+impl Error for Refusal {}

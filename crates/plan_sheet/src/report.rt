@@ -1,6 +1,6 @@
 // The program's whole job, from the bytes that it is given to the text that it prints.
-ghost use Rattle.std.specs.Prelude.{◌≡◌, false, not, is_some, IfOk, string_bytes};
-ghost use Rattle.plan_sheet.specs.Prints.{answer, input_fault, refused};
+ghost use Rattle.std.specs.Prelude.{◌≡◌, false, not, is_some, IfOk};
+ghost use Rattle.plan_sheet.specs.Prints.{answer, input_fault, refused, text_of, has_ranges};
 
 use crate::refusal::Refusal;
 use crate::{prints, reader};
@@ -9,39 +9,39 @@ use std::alloc::{AllocError, Global};
 // More bytes than this are refused unread.
 pub const MOST_BYTES: usize = 4096;
 
-// What is printed, and whether a plan was read.
+// What is printed: the key ranges of a plan, or a refusal.
 #[derive(Drop)]
-pub struct Report {
-    pub text: String,
-    pub accepted: bool,
+pub enum Report {
+    Ranges(String),
+    Refused(String),
+}
+
+impl Report {
+    pub fn text(&self) -> &str
+        ensures { result.now ≡ text_of self.now }
+    {
+        match self {
+            Report::Ranges(text) | Report::Refused(text) => text.as_str(),
+        }
+    }
 }
 
 // The key ranges of the plan that the input writes, or its refusal.
 pub fn report_on(heap: Global, input: &[u8]) -> Result<Report, AllocError>
-    ensures { IfOk result (λ t. (string_bytes t.text ≡ answer input.now) × (t.accepted ≡ not (is_some (input_fault input.now)))) }
+    ensures { IfOk result (λ t. (text_of t ≡ answer input.now) × (has_ranges t ≡ not (is_some (input_fault input.now)))) }
 {
     if input.len() > MOST_BYTES {
         return refused(heap, &Refusal::Layout);
     }
     match reader::read(input) {
-        Ok(plan) => {
-            let text = prints::ranges(heap, &plan)?;
-            Ok(Report {
-                text,
-                accepted: true,
-            })
-        }
+        Ok(plan) => Ok(Report::Ranges(prints::ranges(heap, &plan)?)),
         Err(refusal) => refused(heap, &refusal),
     }
 }
 
 // A refusal's line.
 fn refused(heap: Global, refusal: &Refusal) -> Result<Report, AllocError>
-    ensures { IfOk result (λ t. (string_bytes t.text ≡ refused refusal.now) × (t.accepted ≡ false)) }
+    ensures { IfOk result (λ t. (text_of t ≡ refused refusal.now) × (has_ranges t ≡ false)) }
 {
-    let text = prints::refusal(heap, refusal)?;
-    Ok(Report {
-        text,
-        accepted: false,
-    })
+    Ok(Report::Refused(prints::refusal(heap, refusal)?))
 }

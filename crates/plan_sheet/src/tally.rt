@@ -1,64 +1,55 @@
 // The members of a group, counted entry by entry.
-ghost use Rattle.std.specs.Prelude.{◌≡◌, ℕ, ◌+◌, ◌-◌, ◌^◌, ◌<◌, ◌≤◌, true, false, ◌&&◌, List, ◌∷◌, is_some, MatchOption, nat_lt};
+ghost use Rattle.std.specs.Prelude.{◌≡◌, ℕ, ◌+◌, ◌^◌, ◌<◌, ◌≤◌, true, false, ◌&&◌, List, ◌∷◌, is_some, Some, MatchOption, nat_lt};
 ghost use Rattle.std.specs.Option.{unwrap_or};
 ghost use Rattle.plan_sheet.specs.Entries.{orderly, bit};
 
-// Every next member is above `floor`; a blank shuts out all.
+// Every next member is above `floor`; a blank shuts out all. There is a mask as long as the members rise.
 #[derive(Clone, Copy)]
 pub(crate) struct Tally {
     floor: u8,
-    mask: u8,
-    fine: bool,
+    mask: Option<u8>,
     ghost floor_in: { floor ≤ 8 },
-    ghost small: { mask < 2 ^ floor },
+    ghost small: { unwrap_or mask 0 < 2 ^ floor },
 }
 
 impl Tally {
     pub(crate) fn new() -> Tally
-        ensures { (result.floor ≡ 0) × (result.mask ≡ 0) × (result.fine ≡ true) }
+        ensures { (result.floor ≡ 0) × (result.mask ≡ Some 0) }
     {
         Tally {
             floor: 0,
-            mask: 0,
-            fine: true,
+            mask: Some(0),
         }
     }
 
     pub(crate) fn with(self, entry: Option<u8>) -> Tally
         requires { (unwrap_or entry 0 ≤ 8) × (is_some entry ≡ nat_lt 0 (unwrap_or entry 0)) }
-        ensures order { (ts : List ℕ) → (self.fine && orderly self.floor (unwrap_or entry 0 ∷ ts)) ≡ (result.fine && orderly result.floor ts) }
-        ensures mask { result.fine ≡ true → (self.fine ≡ true) × (result.mask ≡ self.mask + bit (unwrap_or entry 0)) }
-        ensures below { (n : ℕ) → self.mask < 2 ^ n → unwrap_or entry 0 ≤ n → result.mask < 2 ^ n }
+        ensures order { (ts : List ℕ) → (is_some self.mask && orderly self.floor (unwrap_or entry 0 ∷ ts)) ≡ (is_some result.mask && orderly result.floor ts) }
+        ensures mask { is_some result.mask ≡ true → (is_some self.mask ≡ true) × (unwrap_or result.mask 0 ≡ unwrap_or self.mask 0 + bit (unwrap_or entry 0)) }
+        ensures below { (n : ℕ) → unwrap_or self.mask 0 < 2 ^ n → unwrap_or entry 0 ≤ n → unwrap_or result.mask 0 < 2 ^ n }
     {
         let Some(trustee) = entry else {
             return Tally {
                 floor: 8,
                 mask: self.mask,
-                fine: self.fine,
             };
         };
         if trustee <= self.floor {
             return Tally {
                 floor: self.floor,
-                mask: self.mask,
-                fine: false,
+                mask: None,
             };
         }
         Tally {
             floor: trustee,
-            mask: self.mask + (1 << (trustee - 1)),
-            fine: self.fine,
+            mask: self.mask.map(|mask| mask + (1 << (trustee - 1))),
         }
     }
 
     // The mask, if the members rise and it is above another.
     pub(crate) fn above(self, other: u8) -> Option<u8>
-        ensures { MatchOption result ((self.fine && nat_lt other self.mask) ≡ false) (λ m. ((self.fine && nat_lt other self.mask) ≡ true) × (m ≡ self.mask)) }
+        ensures { MatchOption result ((is_some self.mask && nat_lt other (unwrap_or self.mask 0)) ≡ false) (λ m. ((is_some self.mask && nat_lt other (unwrap_or self.mask 0)) ≡ true) × (m ≡ unwrap_or self.mask 0)) }
     {
-        if self.fine && other < self.mask {
-            Some(self.mask)
-        } else {
-            None
-        }
+        self.mask.filter(|mask| other < *mask)
     }
 }

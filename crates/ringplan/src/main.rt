@@ -1,7 +1,7 @@
 // Reads a plan sheet from standard input, and prints which keys each group owns, or what is wrong with the sheet.
 #![tactic(auto)]
 
-use plan_sheet::{MOST_BYTES, report_on};
+use plan_sheet::{MOST_BYTES, Report, report_on};
 use std::io;
 use std::io::Read;
 use std::process::ExitCode;
@@ -12,10 +12,9 @@ fn main(rt: HostRuntime) -> io::Result<ExitCode> {
         .take(MOST_BYTES as u64 + 1)
         .read_to_end(&mut input)?;
     let report = report_on(rt.alloc(), &input)?;
-    rt.print(report.text.as_str())?;
-    if report.accepted {
-        Ok(ExitCode::SUCCESS)
-    } else {
-        Ok(ExitCode::FAILURE)
-    }
+    rt.print(report.text())?;
+    Ok(match report {
+        Report::Ranges(_) => ExitCode::SUCCESS,
+        Report::Refused(_) => ExitCode::FAILURE,
+    })
 }

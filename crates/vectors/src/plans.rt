@@ -10,6 +10,6 @@ impl Suite for PlanSheets {
         let sheet = block.bytes("sheet")?;
         let print = block.bytes("print")?;
         let report = report_on(block.heap(), &sheet)?;
-        Ok(Some(report.text.as_bytes() == print.as_slice()))
+        Ok(Some(report.text().as_bytes() == print.as_slice()))
     }
 }

@@ -1,20 +1,10 @@
-use Rattle.std.proofs.Common.{◌≡◌, ◌+◌, ◌-◌, ◌/◌, ◌&&◌, length, sym, ap, ◌∙◌, arith}
-use Rattle.std.proofs.lemmas.Bool.{and_left, ne_eqb, eq-eqb}
-use Rattle.plan_sheet.specs.Checks.{fed}
-use Rattle.std.specs.List.{range_with_len}
-use Rattle.plan.specs.Every.{every}
-use Rattle.plan_sheet.proofs.Lines.{fed_next}
+use Rattle.std.proofs.Common.{eqb, get_or, ap, ◌∙◌, ◌/◌, length, rules, tests}
+use Rattle.std.specs.List.{list_all}
+use Rattle.std.proofs.lemmas.Iterator.Search.{all_from_yields_List}
+use Rattle.plan_sheet.proofs.Cut.{lines, yields_lines, all_fed}
 use Rattle.plan_sheet.proofs.reader.all_fed.Goals as goal
 
-pub returns-then-sheet-i-ne10 : goal.returns-then-sheet-i-ne10
-returns-then-sheet-i-ne10 c =
-    let s = c.args.sheet.now in
-    let i = c.loop-i.i in
-    sym (c.loop-i.invariant ∙ fed_next s i (length s / 25 - i) (omega arith) ∙ and_left _ _ (ne_eqb _ _ c.if-sheet-i-ne10.true))
-
-pub loop-i-preserved : goal.loop-i-preserved
-loop-i-preserved c =
-    let s = c.args.sheet.now in
-    let i = c.loop-i.i in
-    let k : (length s / 25 - i) - 1 ≡ length s / 25 - (i + 1) = omega arith in
-    c.loop-i.invariant ∙ fed_next s i (length s / 25 - i) (omega arith) ∙ ap (λ b. b && every (fed s) (range_with_len ((i + 1) + 1) ((length s / 25 - i) - 1))) (eq-eqb _ _ c.if-sheet-i-ne10.false) ∙ ap (λ j. every (fed s) (range_with_len ((i + 1) + 1) j)) k
+pub returns : goal.returns
+returns c =
+    let all = all_from_yields_List (λ line. eqb (get_or line 24 0) 10) _ _ c.all.result c.all.ensures.ran (yields_lines c.chunks_exact.result c.chunks_exact.ensures.size) (λ x b q k. search (rules, tests)) in
+    all ∙ ap (λ s. list_all (λ line. eqb (get_or line 24 0) 10) (lines (length s / 25) s)) c.chunks_exact.ensures.rest ∙ all_fed c.args.sheet.now

@@ -7,6 +7,7 @@ use Rattle.plan_sheet.specs.Written.{written}
 use Rattle.plan_sheet.proofs.Lines.{fault_form, fault_heading}
 use Rattle.plan_sheet.proofs.Soundness.{sound}
 use Rattle.plan_sheet.proofs.Completeness.{complete}
+use Rattle.plan_sheet.proofs.Chosen.{is_there}
 use Rattle.plan_sheet.proofs.Told.{no_plan, wrong_count, lines_fault, faultless, valid, is_written, only}
 use Rattle.plan_sheet.proofs.reader.read.Goals as goal
 
@@ -39,13 +40,14 @@ returns-in_err-masks c =
     let e = lines_fault c.args.sheet.now (sym c.if-not-formed.ensures) _ _ _ _ head c.if-not-fits.ensures _ lines in
     record { fault = rw (p.1, p.2) (sym e); written = rw p.1 (no_plan _ _ e); law = (sound, complete); exactly = rw p.1 (no_plan _ _ e) }
 
-pub unreachable-requires : goal.unreachable-requires
-unreachable-requires c =
+pub unwrap-requires : goal.unwrap-requires
+unwrap-requires c =
     let h = c.in_ok-heading.heading in
     let same = c.new-cursor.ensures.0 in
     let head = subst (λ x. Headed x h.trustees (levels h.height) (bits h.width) h.groups) same c.in_ok-heading.ensures.value in
     let lined = subst (λ x. Lined x h.trustees h.groups c.in_ok-masks.masks) (c.heading.ensures.moved.0 ∙ same) c.in_ok-masks.ensures in
-    c.in-None.ensures (valid c.args.sheet.now (sym c.if-not-formed.ensures) _ _ _ _ head c.if-not-fits.ensures _ lined)
+    let there = valid c.args.sheet.now (sym c.if-not-formed.ensures) _ _ _ _ head c.if-not-fits.ensures _ lined in
+    is_there c.new-plan.result _ _ c.new-plan.ensures there
 
 pub returns : goal.returns
 returns c =
@@ -56,7 +58,7 @@ returns c =
     let fits = c.if-not-fits.ensures in
     let head = subst (λ x. Headed x h.trustees (levels h.height) (bits h.width) h.groups) same c.in_ok-heading.ensures.value in
     let lined = subst (λ x. Lined x h.trustees h.groups c.in_ok-masks.masks) (c.heading.ensures.moved.0 ∙ same) c.in_ok-masks.ensures in
-    let made = c.in-Some.ensures.1 in
+    let made = (rw c.unwrap.ensures at c.new-plan.ensures).1 in
     record {
       fault = sym (faultless s whole _ _ _ _ head fits _ lined);
       written = is_written s whole _ _ _ _ head fits _ lined ∙ ap written (sym made);

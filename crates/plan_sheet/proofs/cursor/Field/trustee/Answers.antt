@@ -1,4 +1,5 @@
-use Rattle.std.proofs.Common.{rules}
+use Rattle.std.proofs.Common.{arith, rules}
+use Rattle.std.proofs.lemmas.Grind.{common_steps}
 use Rattle.plan_sheet.specs.Checks.{entry_faults}
 use Rattle.plan_sheet.proofs.cursor.Field.trustee.Goals as goal
 
@@ -14,6 +15,6 @@ pub returns-in_err-value : goal.returns-in_err-value
 unfolding entry_faults
 returns-in_err-value c = search rules
 
-pub returns-then-value-lt1 : goal.returns-then-value-lt1
+pub returns-then-not-contains : goal.returns-then-not-contains
 unfolding entry_faults
-returns-then-value-lt1 c = search rules
+returns-then-not-contains c = grind (arith, common_steps)
