@@ -6,7 +6,7 @@ ghost use Rattle.lmots.specs.LmOts.{X, p, positions};
 ghost use Rattle.lmots.specs.declared.refusal.Refusal.TheVariants.{Buffer};
 
 use crate::digits::{chain_count, position_count};
-use crate::lanes::{behind, places_of_chains, starts, step_lanes};
+use crate::lanes::Lanes;
 use crate::refusal::Refusal;
 use hash::Hash;
 use rows::{Origin, Row, put_row};
@@ -46,12 +46,11 @@ fn write_chains<H: Hash>(
     ensures old { (i j : ℕ) → i < first → j < 2 ^ bits width →
         row_at (i * 2 ^ bits width + j) out.new ≡ row_at (i * 2 ^ bits width + j) out.old }
 {
-    let places = places_of_chains(q, first as u16);
-    let head = behind::<H>(origin.id);
-    let mut rows = starts::<H>(&head, &places, origin.seed);
+    let lanes = Lanes::<H>::of_chains(origin.id, q, first as u16);
+    let mut rows = lanes.starts(origin.seed);
     write_lanes(out, width, first, 0, &rows);
     for j in 1..position_count(width) {
-        rows = step_lanes::<H>(&head, &places, (j - 1) as u8, &rows);
+        rows = lanes.step((j - 1) as u8, &rows);
         write_lanes(out, width, first, j, &rows);
     }
 }
