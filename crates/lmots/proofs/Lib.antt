@@ -1,4 +1,3 @@
-pub mod Arrays
 pub mod Chains
 pub mod Widths
 pub mod Eight
