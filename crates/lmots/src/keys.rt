@@ -11,7 +11,7 @@ use crate::opening::opened;
 use crate::refusal::Refusal;
 use crate::single::walk;
 use hash::Hash;
-use rows::{Identifier, Origin, Row, row_at};
+use rows::{Identifier, Origin, Row};
 use sizes::Width;
 use std::array;
 
@@ -83,9 +83,8 @@ pub fn candidate_key<H: Hash>(
     let top = last_position(width);
     let digits = with_checksum(width, digest);
     let mut key = opened::<H>(id, q, D_PBLK);
-    for i in 0..count {
-        let y = row_at(rows, 32 * i);
-        let end = walk::<H>(id, q, i as u16, digit_at(width, &digits, i), top, &y);
+    for (i, y) in rows.as_chunks().0.iter().enumerate() {
+        let end = walk::<H>(id, q, i as u16, digit_at(width, &digits, i), top, y);
         key.feed(&end);
     }
     Ok(key.close())
