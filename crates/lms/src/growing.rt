@@ -20,8 +20,8 @@ fn fill_eight<H: Hash>(id: Identifier, r: usize, keys: &[Row; 8], nodes: &mut [R
     ensures new { (l : ℕ) → l < 8 → slice_index_or nodes.new (r + l) [] ≡ leaf_node H.Hash.hashed id.bytes (r + l) (slice_index_or keys.now l []) }
     ensures old { (m : ℕ) → m < r → slice_index_or nodes.new m [] ≡ slice_index_or nodes.old m [] }
 {
-    for l in 0..8 {
-        nodes[r + l] = leaf::<H>(id, (r + l) as u32, &keys[l]);
+    for (l, key) in keys.iter().enumerate() {
+        nodes[r + l] = leaf::<H>(id, (r + l) as u32, key);
     }
 }
 
