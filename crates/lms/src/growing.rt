@@ -31,9 +31,9 @@ fn fill_leaves<H: Hash>(origin: Origin, height: Height, width: Width, nodes: &mu
     ensures { Filled H.Hash.hashed origin.id.bytes origin.seed.bytes (levels height) (bits width) (2 ^ levels height) nodes.new }
 {
     let first = height.keys();
-    for b in 0..first / 8 {
-        let keys = public_keys::<H>(origin, width, 8 * b);
-        fill_eight::<H>(origin.id, (first + 8 * b) as usize, &keys, nodes);
+    for key in (0..first).step_by(8) {
+        let keys = public_keys::<H>(origin, width, key);
+        fill_eight::<H>(origin.id, (first + key) as usize, &keys, nodes);
     }
 }
 
