@@ -31,13 +31,7 @@ fn write_lanes(out: &mut [u8], width: Width, first: usize, j: usize, rows: &[Row
 }
 
 // Writes all positions of eight chains of key q, as far as there are chains.
-fn write_chains<H: Hash>(
-    origin: Origin,
-    width: Width,
-    q: u32,
-    first: usize,
-    out: &mut [u8],
-)
+fn write_chains<H: Hash>(origin: Origin, width: Width, q: u32, first: usize, out: &mut [u8])
     requires room { length out.old ≡ 32 * (p (bits width) * 2 ^ bits width) }
     requires low { first ≤ p (bits width) }
     ensures new { (l j : ℕ) → l < 8 → first + l < p (bits width) → j < 2 ^ bits width →

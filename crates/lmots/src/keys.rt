@@ -25,16 +25,18 @@ fn chain_ends<H: Hash>(origin: Origin, width: Width, first: u32) -> [[Row; 8]; 2
 {
     let top = last_position(width);
     let count = chain_count(width);
-    array::from_fn(|i| -> [Row; 8]
-        requires { i < 265 }
-        ensures { i < count → (l : ℕ) → l < 8 → slice_index_or result l [] ≡ X H.Hash.hashed origin.id.bytes origin.seed.bytes ((first + l) % 2 ^ 32) i top }
-    {
-        if i < count {
-            Lanes::<H>::of_keys(origin.id, first, i as u16).rows_at(origin.seed, top)
-        } else {
-            [[0; 32]; 8]
-        }
-    })
+    array::from_fn(
+        |i| -> [Row; 8]
+            requires { i < 265 }
+            ensures { i < count → (l : ℕ) → l < 8 → slice_index_or result l [] ≡ X H.Hash.hashed origin.id.bytes origin.seed.bytes ((first + l) % 2 ^ 32) i top }
+        {
+            if i < count {
+                Lanes::<H>::of_keys(origin.id, first, i as u16).rows_at(origin.seed, top)
+            } else {
+                [[0; 32]; 8]
+            }
+        },
+    )
 }
 
 // The public key of key q, whose chain ends stand in lane l.
@@ -55,13 +57,13 @@ pub fn public_keys<H: Hash>(origin: Origin, width: Width, first: u32) -> [Row; 8
 {
     let all = chain_ends::<H>(origin, width, first);
     let ends = &all[..chain_count(width)];
-    array::from_fn(|l| -> Row
-        requires { l < 8 }
-        ensures { result ≡ one_time_key H.Hash.hashed origin.id.bytes ((first + l) % 2 ^ 32)
-            (rows (length ends.entry.now) (λ i. slice_index_or (slice_index_or ends.entry.now i []) l [])) }
-    {
-        key_of_lane::<H>(origin.id, first.wrapping_add(l as u32), ends, l)
-    })
+    array::from_fn(
+        |l| -> Row
+            requires { l < 8 }
+            ensures { result ≡ one_time_key H.Hash.hashed origin.id.bytes ((first + l) % 2 ^ 32)
+                (rows (length ends.entry.now) (λ i. slice_index_or (slice_index_or ends.entry.now i []) l [])) }
+        { key_of_lane::<H>(origin.id, first.wrapping_add(l as u32), ends, l) },
+    )
 }
 
 // The one-time public key to which a signature's rows lead, one row for each chain.

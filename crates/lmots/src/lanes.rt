@@ -73,13 +73,13 @@ impl<H: Hash> Lanes<H> {
         ensures { (l : ℕ) → l < 8 → slice_index_or result l [] ≡ H.Hash.hashed (self.now.id.bytes
             ++ u32str (slice_index self.now.keys l) ++ u16str (slice_index self.now.chains l) ++ u8str j ++ slice_index_or rows.now l []) }
     {
-        let tails = array::from_fn(|l| -> [u8; 64]
-            requires { l < 8 }
-            ensures { take 39 result ≡ u32str (slice_index self.entry.now.keys l) ++ u16str (slice_index self.entry.now.chains l)
-                ++ u8str j ++ slice_index_or rows.entry.now l [] }
-        {
-            tail(self.keys[l], self.chains[l], j, &rows[l])
-        });
+        let tails = array::from_fn(
+            |l| -> [u8; 64]
+                requires { l < 8 }
+                ensures { take 39 result ≡ u32str (slice_index self.entry.now.keys l) ++ u16str (slice_index self.entry.now.chains l)
+                    ++ u8str j ++ slice_index_or rows.entry.now l [] }
+            { tail(self.keys[l], self.chains[l], j, &rows[l]) },
+        );
         self.head.each(&tails, 39)
     }
 
@@ -96,6 +96,7 @@ impl<H: Hash> Lanes<H> {
         ensures { (l : ℕ) → l < 8 → slice_index_or result l [] ≡ X H.Hash.hashed self.now.id.bytes seed.bytes
             (slice_index self.now.keys l) (slice_index self.now.chains l) position }
     {
+        // A fold would be no shorter, since each step hashes its own number too.
         let mut rows = self.starts(seed);
         for j in 0..position {
             rows = self.step(j, &rows);

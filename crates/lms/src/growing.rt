@@ -52,6 +52,7 @@ fn fill_inner<H: Hash>(id: Identifier, height: Height, nodes: &mut [Row])
     ensures { (seed : List ℕ) (w : ℕ) → Filled H.Hash.hashed id.bytes seed (levels height) w (2 ^ levels height) nodes.old →
         Filled H.Hash.hashed id.bytes seed (levels height) w 1 nodes.new }
 {
+    // A node's number is hashed, and names the two nodes below it in the same slice.
     for r in (1..height.keys() as usize).rev() {
         nodes[r] = above::<H>(id, r, nodes);
     }

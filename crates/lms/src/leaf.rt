@@ -49,6 +49,7 @@ impl<H: Hash> Leaf<'_, H> {
         ensures { out.new ≡ rows (tall self.now.tree.now) (grown_path H.Hash.hashed self.now.tree.now self.now.key) }
     {
         let tree = self.tree;
+        // Rows are written by number, since a proof does not know what a slice holds after `chunks_exact_mut`.
         for k in 0..tree.height.levels() {
             put_row(out, k, &self.sibling(k));
         }

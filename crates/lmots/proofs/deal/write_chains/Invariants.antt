@@ -9,6 +9,6 @@ invariant-loop-j g l =
     record {
       stepped : (k : ℕ) → k < 8 → get_or l.rows k [] ≡ X g.H.Hash.hashed l.fn.origin.id.bytes l.fn.origin.seed.bytes l.q (l.first + k) (l.j - 1);
       new : (k j : ℕ) → k < 8 → l.first + k < p (bits l.width) → j < l.j →
-      row_at ((l.first + k) * 2 ^ bits l.width + j) l.out ≡ X g.H.Hash.hashed l.fn.origin.id.bytes l.fn.origin.seed.bytes l.q (l.first + k) j;
+          row_at ((l.first + k) * 2 ^ bits l.width + j) l.out ≡ X g.H.Hash.hashed l.fn.origin.id.bytes l.fn.origin.seed.bytes l.q (l.first + k) j;
       old : (i j : ℕ) → i < l.first → j < 2 ^ bits l.width → row_at (i * 2 ^ bits l.width + j) l.out ≡ row_at (i * 2 ^ bits l.width + j) l.fn.out;
     }

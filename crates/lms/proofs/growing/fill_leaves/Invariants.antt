@@ -9,5 +9,5 @@ invariant-loop-key g l =
     record {
       whole : l.key % 8 ≡ 0;
       there : (q : ℕ) → q < l.key →
-      get_or l.nodes (l.first + q) [] ≡ leaf_node g.H.Hash.hashed l.origin.id.bytes (l.first + q) (public_key g.H.Hash.hashed l.origin.id.bytes l.origin.seed.bytes (bits l.width) q);
+          get_or l.nodes (l.first + q) [] ≡ leaf_node g.H.Hash.hashed l.origin.id.bytes (l.first + q) (public_key g.H.Hash.hashed l.origin.id.bytes l.origin.seed.bytes (bits l.width) q);
     }

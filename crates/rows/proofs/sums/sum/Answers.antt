@@ -16,8 +16,8 @@ returns c =
     let ly : length ys ≡ 32 = search rules in
     record {
       value = same_lists ys (xored a b) (ly ∙ sym (length_xored a b ∙ la))
-      (λ j d m.
-      made _ 32 (λ k v. v ≡ bit_xor (get_or a k 0) (get_or b k 0)) _ (λ k r q l called. search rules) ys c.from_fn.ensures.items j d (omega arith)
-      ∙ ap₂ bit_xor (get_d_any a j 0 d (omega arith)) (get_d_any b j 0 d (omega arith)) ∙ sym (get_or_xored a b j d (omega arith) (lb ∙ sym la)));
+          (λ j d m.
+          made _ 32 (λ k v. v ≡ bit_xor (get_or a k 0) (get_or b k 0)) _ (λ k r q l called. search rules) ys c.from_fn.ensures.items j d (omega arith)
+          ∙ ap₂ bit_xor (get_d_any a j 0 d (omega arith)) (get_d_any b j 0 d (omega arith)) ∙ sym (get_or_xored a b j d (omega arith) (lb ∙ sym la)));
       laws = sums;
     }
