@@ -1,8 +1,11 @@
 -- The digits' places and the checksum's size, width by width.
-use Rattle.std.proofs.Common.{◌≡◌, ℕ, zero, suc, ◌+◌, ◌-◌, ◌*◌, ◌/◌, ◌%◌, ◌^◌, ◌<◌, ◌≤◌, ◌⊎◌, List, ◌++◌, length, sym, refl, ap, ◌∙◌, subst, inl, inr, mul-suc, add-one, arith, length-append}
+use Rattle.std.proofs.Common.{◌≡◌, ℕ, zero, suc, ◌+◌, ◌-◌, ◌*◌, ◌/◌, ◌%◌, ◌^◌, ◌<◌, ◌≤◌, ◌⊎◌, List, ◌++◌, length, sym, refl, ap, ◌∙◌, subst, inl, inr, mul-suc, add-one, map, sum, sum_by, arith, length-append}
+use Rattle.std.specs.List.{range_with_len}
 use native.Mathlib.Nat.{zero-div}
 use lib.Bits.{bit_and, and_zero_r}
 use Rattle.std.proofs.lemmas.List.{get_or_past}
+use Rattle.std.proofs.lemmas.List.FromFn.{sum_by-map-range_with_len_more}
+use Rattle.std.proofs.lemmas.List.Sums.{sum-map}
 use Rattle.rows.specs.Bytes.{u16str}
 use Rattle.sizes.specs.declared.width.Width.{Width}
 use Rattle.sizes.specs.declared.width.Width.TheVariants.{One, Two, Four, Eight}
@@ -69,3 +72,23 @@ checksum_small s =
 
 pub string_length : (w : ℕ) (d : List ℕ) → length d ≡ 32 → length (d ++ u16str (checksum w d)) ≡ 34
 string_length w d h = length-append d (u16str (checksum w d)) ∙ omega arith
+
+-- what the first n digits lack, summed up
+lacking_sum : (w : ℕ) (s : List ℕ) (n : ℕ) → sum (map (λ i. 2 ^ w - 1 - coef w s i) (range_with_len 0 n)) ≡ missing w s n
+unfolding missing
+lacking_sum w s zero = refl
+lacking_sum w s (suc n) =
+    let f : ℕ → ℕ = λ i. 2 ^ w - 1 - coef w s i in
+    let e : suc n ≡ n + 1 = omega arith in
+    ap (λ k. sum (map f (range_with_len 0 k))) e ∙ sum_by-map-range_with_len_more (λ x. x) f 0 n n (omega arith) ∙ ap (λ x. x + f n) (lacking_sum w s n)
+
+pub lacking_all : (w : ℕ) (s : List ℕ) (n : ℕ) → sum_by (λ i. 2 ^ w - 1 - coef w s i) (range_with_len 0 n) ≡ missing w s n
+lacking_all w s n = sym (sum-map (λ i. 2 ^ w - 1 - coef w s i) (range_with_len 0 n)) ∙ lacking_sum w s n
+
+pub missing_small : (s : List ℕ) (w : ℕ) → Known w → missing w s (u w) < 2 ^ 16
+missing_small s =
+    by_width (λ w. missing w s (u w) < 2 ^ 16)
+    (omega (arith, missing_le 1 s 1 (omega arith) 256))
+    (omega (arith, missing_le 2 s 3 (omega arith) 128))
+    (omega (arith, missing_le 4 s 15 (omega arith) 64))
+    (omega (arith, missing_le 8 s 255 (omega arith) 32))

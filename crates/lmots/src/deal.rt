@@ -6,7 +6,7 @@ ghost use Rattle.lmots.specs.LmOts.{X, p, positions};
 ghost use Rattle.lmots.specs.declared.refusal.Refusal.TheVariants.{Buffer};
 
 use crate::digits::{chain_count, position_count};
-use crate::lanes::{behind, places_of_chains, starts, step_lanes};
+use crate::lanes::Lanes;
 use crate::refusal::Refusal;
 use hash::Hash;
 use rows::{Origin, Row, put_row};
@@ -16,7 +16,7 @@ use sizes::Width;
 fn write_lanes(out: &mut [u8], width: Width, first: usize, j: usize, rows: &[Row; 8])
     requires room { length out.old ≡ 32 * (p (bits width) * 2 ^ bits width) }
     requires inside { j < 2 ^ bits width }
-    requires low { first ≤ 265 }
+    requires low { first ≤ p (bits width) }
     ensures new { (l : ℕ) → l < 8 → first + l < p (bits width) →
         row_at ((first + l) * 2 ^ bits width + j) out.new ≡ slice_index_or rows.now l [] }
     ensures old { (i k : ℕ) → k < 2 ^ bits width → (i < first) ⊎ (k ≢ j) →
@@ -24,34 +24,26 @@ fn write_lanes(out: &mut [u8], width: Width, first: usize, j: usize, rows: &[Row
 {
     let size = position_count(width);
     let count = chain_count(width);
-    for l in 0..8 {
-        if first + l < count {
-            put_row(out, (first + l) * size + j, &rows[l]);
-        }
+    let here = (count - first).min(8);
+    for (l, row) in rows[..here].iter().enumerate() {
+        put_row(out, (first + l) * size + j, row);
     }
 }
 
 // Writes all positions of eight chains of key q, as far as there are chains.
-fn write_chains<H: Hash>(
-    origin: Origin,
-    width: Width,
-    q: u32,
-    first: usize,
-    out: &mut [u8],
-)
+fn write_chains<H: Hash>(origin: Origin, width: Width, q: u32, first: usize, out: &mut [u8])
     requires room { length out.old ≡ 32 * (p (bits width) * 2 ^ bits width) }
-    requires low { first ≤ 265 }
+    requires low { first ≤ p (bits width) }
     ensures new { (l j : ℕ) → l < 8 → first + l < p (bits width) → j < 2 ^ bits width →
         row_at ((first + l) * 2 ^ bits width + j) out.new ≡ X H.Hash.hashed origin.id.bytes origin.seed.bytes q (first + l) j }
     ensures old { (i j : ℕ) → i < first → j < 2 ^ bits width →
         row_at (i * 2 ^ bits width + j) out.new ≡ row_at (i * 2 ^ bits width + j) out.old }
 {
-    let places = places_of_chains(q, first as u16);
-    let head = behind::<H>(origin.id);
-    let mut rows = starts::<H>(&head, &places, origin.seed);
+    let lanes = Lanes::<H>::of_chains(origin.id, q, first as u16);
+    let mut rows = lanes.starts(origin.seed);
     write_lanes(out, width, first, 0, &rows);
     for j in 1..position_count(width) {
-        rows = step_lanes::<H>(&head, &places, (j - 1) as u8, &rows);
+        rows = lanes.step((j - 1) as u8, &rows);
         write_lanes(out, width, first, j, &rows);
     }
 }
@@ -71,8 +63,8 @@ pub fn write_positions<H: Hash>(
     if out.len() != 32 * (count * position_count(width)) {
         return Err(Refusal::Buffer);
     }
-    for b in 0..(count + 7) / 8 {
-        write_chains::<H>(origin, width, q, 8 * b, out);
+    for first in (0..count).step_by(8) {
+        write_chains::<H>(origin, width, q, first, out);
     }
     Ok(())
 }

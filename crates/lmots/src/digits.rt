@@ -2,7 +2,7 @@
 ghost use Rattle.std.specs.Prelude.{◌≡◌, ◌+◌, ◌-◌, ◌*◌, ◌/◌, ◌^◌, ◌<◌, ◌≤◌, ◌++◌, length};
 ghost use Rattle.rows.specs.Bytes.{u16str};
 ghost use Rattle.sizes.specs.Sizes.{bits};
-ghost use Rattle.lmots.specs.LmOts.{coef, checksum, digit, ls, p};
+ghost use Rattle.lmots.specs.LmOts.{coef, checksum, digit, ls, p, u};
 
 use rows::{Row, put};
 use sizes::Width;
@@ -63,15 +63,21 @@ pub(crate) fn digit_at(width: Width, s: &[u8], i: usize) -> u8
     (last_position(width) as usize & (byte >> (8 - (w * (i % (8 / w)) + w)))) as u8
 }
 
+// What digit i of a digest lacks of the largest.
+fn lacking(width: Width, digest: &Row, i: usize) -> u16
+    requires { i < u (bits width) }
+    ensures { result ≡ 2 ^ bits width - 1 - coef (bits width) digest.now i }
+{
+    (last_position(width) - digit_at(width, digest, i)) as u16
+}
+
 // A digest with its checksum behind it: the string whose digits are signed.
 pub(crate) fn with_checksum(width: Width, digest: &Row) -> [u8; 34]
     ensures { result ≡ digest.now ++ u16str (checksum (bits width) digest.now) }
 {
-    let top = last_position(width) as u16;
-    let mut sum: u16 = 0;
-    for i in 0..256 / width.bits() {
-        sum += top - digit_at(width, digest, i) as u16;
-    }
+    let sum: u16 = (0..256 / width.bits())
+        .map(|i| lacking(width, digest, i))
+        .sum();
     let bytes = (sum << checksum_shift(width)).to_be_bytes();
     let mut s = [0; 34];
     put(&mut s, 0, digest);

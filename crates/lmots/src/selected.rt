@@ -30,6 +30,7 @@ pub fn write_selected<H: Hash>(
         return Err(Refusal::Buffer);
     }
     let digits = with_checksum(width, digest);
+    // Rows are written by number, since a proof does not know what a slice holds after `chunks_exact_mut`.
     for i in 0..count {
         let x = chain_start::<H>(origin, q, i as u16);
         let y = walk::<H>(origin.id, q, i as u16, 0, digit_at(width, &digits, i), &x);

@@ -20,8 +20,8 @@ fn fill_eight<H: Hash>(id: Identifier, r: usize, keys: &[Row; 8], nodes: &mut [R
     ensures new { (l : ℕ) → l < 8 → slice_index_or nodes.new (r + l) [] ≡ leaf_node H.Hash.hashed id.bytes (r + l) (slice_index_or keys.now l []) }
     ensures old { (m : ℕ) → m < r → slice_index_or nodes.new m [] ≡ slice_index_or nodes.old m [] }
 {
-    for l in 0..8 {
-        nodes[r + l] = leaf::<H>(id, (r + l) as u32, &keys[l]);
+    for (l, key) in keys.iter().enumerate() {
+        nodes[r + l] = leaf::<H>(id, (r + l) as u32, key);
     }
 }
 
@@ -31,9 +31,9 @@ fn fill_leaves<H: Hash>(origin: Origin, height: Height, width: Width, nodes: &mu
     ensures { Filled H.Hash.hashed origin.id.bytes origin.seed.bytes (levels height) (bits width) (2 ^ levels height) nodes.new }
 {
     let first = height.keys();
-    for b in 0..first / 8 {
-        let keys = public_keys::<H>(origin, width, 8 * b);
-        fill_eight::<H>(origin.id, (first + 8 * b) as usize, &keys, nodes);
+    for key in (0..first).step_by(8) {
+        let keys = public_keys::<H>(origin, width, key);
+        fill_eight::<H>(origin.id, (first + key) as usize, &keys, nodes);
     }
 }
 
@@ -52,6 +52,7 @@ fn fill_inner<H: Hash>(id: Identifier, height: Height, nodes: &mut [Row])
     ensures { (seed : List ℕ) (w : ℕ) → Filled H.Hash.hashed id.bytes seed (levels height) w (2 ^ levels height) nodes.old →
         Filled H.Hash.hashed id.bytes seed (levels height) w 1 nodes.new }
 {
+    // A node's number is hashed, and names the two nodes below it in the same slice.
     for r in (1..height.keys() as usize).rev() {
         nodes[r] = above::<H>(id, r, nodes);
     }

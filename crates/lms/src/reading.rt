@@ -9,7 +9,7 @@ use crate::codes::{ots_code, tree_code};
 use crate::kept::Tree;
 use crate::refusal::Refusal;
 use hash::Hash;
-use rows::{Identifier, Row, Seed, put, put_row};
+use rows::{Identifier, Row, Seed, put};
 
 impl<H: Hash> Tree<H> {
     // What the tree was grown from.
@@ -37,38 +37,17 @@ impl<H: Hash> Tree<H> {
         root
     }
 
-    // The row of a leaf's path at one level.
-    fn sibling(&self, key: u32, level: usize) -> Row
-        requires small { key < 2 ^ tall self.now }
-        requires low { level < tall self.now }
-        ensures { result ≡ grown_path H.Hash.hashed self.now key level }
-    {
-        let r = (self.height.keys() + key) as usize;
-        self.nodes[(r >> level) ^ 1]
-    }
-
-    // The same, or none where there is no such leaf or level.
+    // The row of a leaf's path at one level, or none where there is no such leaf or level.
     pub fn path_row(&self, key: u32, level: usize) -> Option<Row>
         ensures { MatchOption result
             ((key < 2 ^ tall self.now) × (level < tall self.now) → ⊥)
             (λ x. (key < 2 ^ tall self.now) × (level < tall self.now) × (x ≡ grown_path H.Hash.hashed self.now key level)) }
     {
-        if key >= self.height.keys() || level >= self.height.levels() {
+        let leaf = self.leaf(key)?;
+        if level >= self.height.levels() {
             return None;
         }
-        Some(self.sibling(key, level))
-    }
-
-    // All rows of a leaf's path.
-    pub(crate) fn write_siblings(&self, key: u32, out: &mut [u8])
-        requires small { key < 2 ^ tall self.now }
-        requires room { length out.old ≡ 32 * tall self.now }
-        ensures { out.new ≡ rows (tall self.now) (grown_path H.Hash.hashed self.now key) }
-    {
-        for k in 0..self.height.levels() {
-            let row = self.sibling(key, k);
-            put_row(out, k, &row);
-        }
+        Some(leaf.sibling(level))
     }
 
     // Writes the rows of a leaf's path, from the lowest up, over all of a buffer.
@@ -78,13 +57,11 @@ impl<H: Hash> Tree<H> {
             (λ _. out.new ≡ rows (tall self.now) (grown_path H.Hash.hashed self.now key))
             (λ _. out.new ≡ out.old) }
     {
-        if key >= self.height.keys() {
-            return Err(Refusal::Key);
-        }
+        let leaf = self.leaf(key).ok_or(Refusal::Key)?;
         if out.len() != 32 * self.height.levels() {
             return Err(Refusal::Buffer);
         }
-        self.write_siblings(key, out);
+        leaf.write_siblings(out);
         Ok(())
     }
 }

@@ -8,7 +8,7 @@ use Rattle.sizes.specs.Sizes.{levels, bits}
 use Rattle.lms.specs.Grown.{grown_path, grown_signature, tall, wide}
 use Rattle.lms.specs.Lms.{ots_code, path_of, signature_length, signature_with}
 use Rattle.lms.proofs.Joints.{written_rest, put_behind}
-use Rattle.lms.proofs.kept.Tree.write_signature.Goals as goal
+use Rattle.lms.proofs.leaf.Leaf.write_signature.Goals as goal
 
 -- a call whose refusal is ruled out
 only_ok : {X E : Type 0} (r : Result X E) (P : Type 0) (Q : E → Type 0) → MatchResult r (λ _. P) Q → ((e : E) → Q e → ⊥) → P
@@ -19,14 +19,14 @@ pub returns : goal.returns
 unfolding signature_with
 returns g c =
     let a = c.args in
-    let t = c.self.inside in
+    let t = c.tree.inside in
     let H = g.H.Hash.hashed in
     let I = t.origin.id.bytes in
-    let q = a.key in
+    let q = a.self.now.key in
     let h = levels t.height in
     let w = bits t.width in
-    let e = c.self.view_is in
-    let room : length a.out.now ≡ signature_length h w = c.requires.room ∙ sym (ap (λ t. signature_length (tall t) (wide t)) e) in
+    let e = c.tree.view_is in
+    let room : length a.out.now ≡ signature_length h w = c.requires ∙ sym (ap (λ t. signature_length (tall t) (wide t)) e) in
     let n : ℕ = 32 * c.chain_count.result in
     let Y = rows (p w) (λ i. X H I t.origin.seed.bytes q i (digit w c.digest_of-digest.result i)) in
     let Z = rows h (path_of H I t.origin.seed.bytes h w q) in
