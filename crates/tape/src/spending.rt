@@ -1,21 +1,22 @@
 // A tape as a ledger.
-ghost use Rattle.std.specs.Prelude.{◌≡◌, ℕ, ◌+◌, ◌*◌, ◌≤◌, length, MatchOption, MatchResult};
+ghost use Rattle.std.specs.Prelude.{◌≡◌, ◌+◌, ◌*◌, ◌≤◌, length, MatchOption, MatchResult};
 ghost use Rattle.std.specs.Result.{result_err};
 ghost use Rattle.sizes.specs.Sizes.{levels};
 ghost use Rattle.ledger.specs.Spend.{spend_refusal, Altered};
 ghost use Rattle.tape.specs.Lines.{lines, blanks, FirstUnused, spent_on, flat};
 ghost use Rattle.tape.specs.Tapes.{of_tape};
 
-use crate::lines::{first_unused, is_listed, line_of, unused_lines};
+use crate::line::{is_unused, line_of};
+use crate::lines::{Lines, is_listed, unused_lines};
 use crate::tapes::Tape;
 use ledger::{Ledger, Refusal};
 
 impl Tape<'_> {
-    // Where the first unused line begins.
+    // Which line is the first unused one.
     fn first_unused(&self) -> Option<usize>
-        ensures { MatchOption result (blanks (lines self.now.bytes.now) ≡ 0) (λ at. (at + 6 ≤ length self.now.bytes.now) × ((i : ℕ) × (at ≡ 6 * i) × FirstUnused (lines self.now.bytes.now) i)) }
+        ensures { MatchOption result (blanks (lines self.now.bytes.now) ≡ 0) (λ i. (6 * i + 6 ≤ length self.now.bytes.now) × FirstUnused (lines self.now.bytes.now) i) }
     {
-        first_unused(self.bytes)
+        Lines(self.bytes).position(is_unused)
     }
 }
 
@@ -45,9 +46,10 @@ impl Ledger for Tape<'_> {
         if self.spent(key) {
             return Err(Refusal::Spent);
         }
-        let Some(at) = self.first_unused() else {
+        let Some(line) = self.first_unused() else {
             return Err(Refusal::NoRoom);
         };
+        let at = 6 * line;
         self.bytes[at..at + 6].copy_from_slice(&line_of(key));
         Ok(())
     }

@@ -12,6 +12,7 @@ use crate::refusal::Refusal;
 use sizes::Height;
 
 // A tape that is not intact was made of damaged bytes: it leaves them alone, every key is spent, and there is no room.
+// This is a flag, since such a tape has its bytes and its tree too: an enum would name the same two fields twice.
 #[derive(Drop)]
 pub struct Tape<'a> {
     pub(crate) bytes: &'a mut [u8],
