@@ -1,5 +1,5 @@
 -- Entries that are looked up, and one that is put among them.
-use Rattle.std.proofs.Common.{◌≡◌, ℕ, zero, suc, ◌+◌, ◌<◌, ◌≤◌, true, false, eqb, ltb, List, [], ◌∷◌, length, get_or, set, Some, None, Ok, Err, Option, sym, refl, ap, ◌∙◌, subst, ⊎_elim, arith}
+use Rattle.std.proofs.Common.{◌≡◌, ℕ, zero, suc, ◌<◌, true, false, eqb, ltb, List, [], ◌∷◌, length, get_or, set, Some, None, Ok, Err, Option, sym, refl, ap, ◌∙◌, subst, ⊎_elim, arith}
 use Rattle.std.proofs.lemmas.List.{get_or-set_same, get_or-set_other}
 use Rattle.std.proofs.lemmas.Bool.{cases_Bool, cases_eq, and_from, and_parts, eq-eqb, eqb-true, lt-ltb, cond-true, cond-false}
 use Rattle.helper.specs.declared.entry.Entry.{Entry}
@@ -22,7 +22,7 @@ found_put (Some y ∷ es) (suc i) x none l =
 
 module _ (h : Holding) where
   -- what is found among entries that agree is the row below
-  pub found_below : (es : List (Option Entry)) (key index : ℕ) (row : List ℕ) → Agrees es h → lookup es key index ≡ Some row → row ≡ h.row key index
+  pub found_below : (es : List (Option Entry)) (key index : ℕ) (row : List ℕ) → Agrees es h → Some row ≡ lookup es key index → row ≡ h.row key index
   found_below [] key index row a e = let no : ◌≡◌ {A = ℕ} 0 1 = cc in absurd (omega arith)
   found_below (None ∷ es) key index row a e = found_below es key index row (λ n. a (suc n)) e
   found_below (Some x ∷ es) key index row a e =
@@ -31,10 +31,10 @@ module _ (h : Holding) where
       ⊎_elim
       (λ (y : t ≡ true).
       let both = and_parts (eqb x.key key) (eqb x.index index) y in
-      let here : Some row ≡ Some x.row = sym e ∙ cond-true t (Some x.row) rest y in
+      let here : Some row ≡ Some x.row = e ∙ cond-true t (Some x.row) rest y in
       let same : row ≡ x.row = cc in
       same ∙ a 0 x refl ∙ ap (λ k. h.row k x.index) (eqb-true x.key key both.0) ∙ ap (λ n. h.row key n) (eqb-true x.index index both.1))
-      (λ (n : t ≡ false). found_below es key index row (λ n. a (suc n)) (sym (cond-false t (Some x.row) rest n) ∙ e))
+      (λ (n : t ≡ false). found_below es key index row (λ n. a (suc n)) (e ∙ cond-false t (Some x.row) rest n))
       (cases_Bool t)
 
   -- a row from below agrees wherever it is put
@@ -49,7 +49,5 @@ module _ (h : Holding) where
       (cases_eq n i)
 
   -- what a read below the number gives
-  pub row_read : (key index : ℕ) (row : List ℕ) → index < h.number key → Ok row ≡ reading h key index → row ≡ h.row key index
-  row_read key index row l e =
-      let z : Ok row ≡ Ok (h.row key index) = e ∙ cond-true (ltb index (h.number key)) (Ok (h.row key index)) (Err Beyond) (lt-ltb index (h.number key) l) in
-      cc
+  pub row_given : (key index : ℕ) → index < h.number key → Ok (h.row key index) ≡ reading h key index
+  row_given key index l = sym (cond-true (ltb index (h.number key)) (Ok (h.row key index)) (Err Beyond) (lt-ltb index (h.number key) l))

@@ -1,5 +1,5 @@
 // Sixteen rows kept over any helper.
-ghost use Rattle.std.specs.Prelude.{◌≡◌, ℕ, List, is_some, Some, None, Ok, Err};
+ghost use Rattle.std.specs.Prelude.{◌≡◌, ◌<◌, ℕ, List, is_some, Some, None, Ok, Err};
 ghost use Rattle.helper.specs.Entries.{Agrees};
 
 use crate::entry::{Entry, look_up};
@@ -13,6 +13,7 @@ pub struct Cache<H: Helper> {
     below: H,
     entries: [Option<Entry>; 16],
     next: usize,
+    ghost inside: { next < 16 },
     // Each row that it keeps is the one that the helper below holds.
     ghost agrees: { Agrees entries (H.held below) },
 }
@@ -66,9 +67,8 @@ impl<H: Helper> Helper for Cache<H> {
             return Ok(row);
         }
         let row = self.below.read(key, index)?;
-        let place = self.next % 16;
-        self.entries[place] = Some(Entry { key, index, row });
-        self.next = place + 1;
+        self.entries[self.next] = Some(Entry { key, index, row });
+        self.next = (self.next + 1) % 16;
         Ok(row)
     }
 }
