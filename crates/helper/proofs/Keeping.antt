@@ -1,7 +1,6 @@
 -- Entries that are looked up, and one that is put among them.
-use Rattle.std.proofs.Common.{◌≡◌, ℕ, zero, suc, ◌<◌, true, false, eqb, ltb, List, [], ◌∷◌, length, get_or, set, Some, None, Ok, Err, Option, sym, refl, ap, ◌∙◌, subst, ⊎_elim, arith}
-use Rattle.std.proofs.lemmas.List.{get_or-set_same, get_or-set_other}
-use Rattle.std.proofs.lemmas.Bool.{cases_Bool, cases_eq, and_from, and_parts, eq-eqb, eqb-true, lt-ltb, cond-true, cond-false}
+use Rattle.std.proofs.Common.{◌≡◌, ℕ, zero, suc, ◌<◌, true, false, eqb, ltb, List, [], ◌∷◌, length, set, Some, None, Ok, Err, Option, sym, refl, ap, ◌∙◌, ⊎_elim, arith}
+use Rattle.std.proofs.lemmas.Bool.{cases_Bool, and_from, and_parts, eq-eqb, eqb-true, lt-ltb, cond-true, cond-false}
 use Rattle.helper.specs.declared.entry.Entry.{Entry}
 use Rattle.helper.specs.declared.refusal.Refusal.TheVariants.{Beyond}
 use Rattle.helper.specs.Holding.{Holding, reading}
@@ -36,17 +35,6 @@ module _ (h : Holding) where
       same ∙ a 0 x refl ∙ ap (λ k. h.row k x.index) (eqb-true x.key key both.0) ∙ ap (λ n. h.row key n) (eqb-true x.index index both.1))
       (λ (n : t ≡ false). found_below es key index row (λ n. a (suc n)) (e ∙ cond-false t (Some x.row) rest n))
       (cases_Bool t)
-
-  -- a row from below agrees wherever it is put
-  pub agrees_put : (es : List (Option Entry)) (i : ℕ) (x : Entry) → i < length es → x.row ≡ h.row x.key x.index → Agrees es h → Agrees (set es i (Some x)) h
-  agrees_put es i x l row a n y e =
-      ⊎_elim
-      (λ (p : n ≡ i).
-      let z : Some x ≡ Some y = sym (get_or-set_same es i (Some x) None l) ∙ ap (λ m. get_or (set es i (Some x)) m None) (sym p) ∙ e in
-      let same : x ≡ y = cc in
-      subst (λ (w : Entry). w.row ≡ h.row w.key w.index) same row)
-      (λ (p : n ≡ i → ⊥). a n y (sym (get_or-set_other es i n (Some x) None p) ∙ e))
-      (cases_eq n i)
 
   -- what a read below the number gives
   pub row_given : (key index : ℕ) → index < h.number key → Ok (h.row key index) ≡ reading h key index
