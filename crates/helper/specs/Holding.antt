@@ -1,5 +1,5 @@
 -- What a helper means: how many rows it holds of each key, and which.
-use Rattle.std.specs.Prelude.{◌≡◌, ℕ, cond, List, Ok, Err, Result, nat_lt}
+use Rattle.std.specs.Prelude.{ℕ, cond, List, Ok, Err, Result, nat_lt}
 use Rattle.helper.specs.declared.refusal.Refusal.{Refusal}
 use Rattle.helper.specs.declared.refusal.Refusal.TheVariants.{Beyond}
 
@@ -11,11 +11,3 @@ pub record Holding : Type 0 where
 -- what a read answers: the row below the number, and a refusal beyond it
 abbrev pub reading : Holding → ℕ → ℕ → Result (List ℕ) Refusal
 reading h key index = cond (nat_lt index (h.number key)) (Ok (h.row key index)) (Err Beyond)
-
--- as many rows of every key
-abbrev pub SameNumbers : Holding → Holding → Type 0
-SameNumbers a b = (key : ℕ) → a.number key ≡ b.number key
-
--- a faithful helper stays faithful, and holds what it held
-abbrev pub Stays : {X : Type 0} → (X → Holding) → (X → Type 0) → X → X → Type 0
-Stays holding Faithful before after = Faithful before → (holding after ≡ holding before) × Faithful after

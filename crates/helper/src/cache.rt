@@ -1,9 +1,6 @@
 // Sixteen rows kept over any helper.
-ghost use Rattle.std.specs.Prelude.{◌≡◌, ℕ, List, is_some, Some, None, Ok, Err};
-ghost use Rattle.helper.specs.Holding.{reading, SameNumbers, Stays};
-ghost use Rattle.helper.specs.Entries.{lookup};
-ghost use Rattle.helper.specs.Caches.{of_cache, CacheFaithful};
-ghost use Rattle.helper.specs.declared.refusal.Refusal.{Refusal as Why};
+ghost use Rattle.std.specs.Prelude.{◌≡◌, ◌<◌, ℕ, List, is_some, Some, None, Ok, Err};
+ghost use Rattle.helper.specs.Entries.{Agrees};
 
 use crate::entry::{Entry, look_up};
 use crate::interface::Helper;
@@ -16,15 +13,18 @@ pub struct Cache<H: Helper> {
     below: H,
     entries: [Option<Entry>; 16],
     next: usize,
+    ghost inside: { next < 16 },
+    // Each row that it keeps is the one that the helper below holds.
+    ghost agrees: { Agrees entries (H.held below) },
 }
 
 impl<H: Helper> Cache<H> {
+    ghost use Rattle.helper.specs.Entries.{lookup};
+
     // A cache that keeps no row yet.
     pub fn new(below: H) -> Cache<H>
         ensures below { result.below ≡ below }
         ensures empty { (key index : ℕ) → lookup result.entries key index ≡ None }
-        ensures means { of_cache H.Helper.held result ≡ H.Helper.held below }
-        ensures faithful { H.Helper.faithful below → CacheFaithful H.Helper.held H.Helper.faithful result }
     {
         Cache {
             below,
@@ -42,9 +42,11 @@ impl<H: Helper> Cache<H> {
 }
 
 impl<H: Helper> Helper for Cache<H> {
-    ghost held = { of_cache H.Helper.held };
+    ghost use Rattle.helper.specs.Holding.{reading};
+    ghost use Rattle.helper.specs.Entries.{lookup};
+    ghost use Rattle.helper.specs.declared.refusal.Refusal.{Refusal as Why};
 
-    ghost faithful = { CacheFaithful H.Helper.held H.Helper.faithful };
+    ghost held = { λ c. H.Helper.held c.below };
 
     fn number(&self, key: u32) -> usize {
         self.below.number(key)
@@ -52,9 +54,8 @@ impl<H: Helper> Helper for Cache<H> {
 
     // The interface's clauses, and: a row that it keeps is given with nothing altered, a row that was given is kept, and a refusal alters nothing.
     fn read(&mut self, key: u32, index: usize) -> Result<Row, Refusal>
-        ensures answer { result ≡ reading (of_cache H.Helper.held self.old) key index }
-        ensures numbers { SameNumbers (of_cache H.Helper.held self.new) (of_cache H.Helper.held self.old) }
-        ensures after { Stays (of_cache H.Helper.held) (CacheFaithful H.Helper.held H.Helper.faithful) self.old self.new }
+        ensures answer { result ≡ reading (H.Helper.held self.old.below) key index }
+        ensures after { H.Helper.held self.new.below ≡ H.Helper.held self.old.below }
         ensures kept { (row : List ℕ) → lookup self.old.entries key index ≡ Some row → self.new ≡ self.old }
         ensures last { (row : List ℕ) → result ≡ Ok row → lookup self.new.entries key index ≡ Some row }
         ensures refused { (why : Why) → result ≡ Err why → self.new ≡ self.old }
@@ -66,9 +67,8 @@ impl<H: Helper> Helper for Cache<H> {
             return Ok(row);
         }
         let row = self.below.read(key, index)?;
-        let place = self.next % 16;
-        self.entries[place] = Some(Entry { key, index, row });
-        self.next = place + 1;
+        self.entries[self.next] = Some(Entry { key, index, row });
+        self.next = (self.next + 1) % 16;
         Ok(row)
     }
 }

@@ -24,12 +24,9 @@ impl Entry {
 pub fn look_up(entries: &[Option<Entry>], key: u32, index: usize) -> Option<Row>
     ensures { result ≡ lookup entries.now key index }
 {
-    for entry in entries {
-        if let Some(entry) = entry
-            && entry.is_of(key, index)
-        {
-            return Some(entry.row);
-        }
-    }
-    None
+    let entry = entries
+        .iter()
+        .flatten()
+        .find(|entry| entry.is_of(key, index))?;
+    Some(entry.row)
 }

@@ -1,6 +1,6 @@
 // What every helper is.
 ghost use Rattle.std.specs.Prelude.{◌≡◌};
-ghost use Rattle.helper.specs.Holding.{Holding, reading, SameNumbers, Stays};
+ghost use Rattle.helper.specs.Holding.{Holding, reading};
 
 use crate::refusal::Refusal;
 use rows::Row;
@@ -9,16 +9,12 @@ use rows::Row;
 pub trait Helper {
     ghost held: { Self → Holding };
 
-    // That the rows it keeps are those of what it stands on; every helper is made so.
-    ghost faithful: { Self → Type 0 };
-
     // How many rows it holds of a key.
     fn number(&self, key: u32) -> usize
         ensures { result ≡ (held self.now).number key };
 
-    // A row of a key. What a faithful helper holds stays as it is.
+    // A row of a key. What a helper holds stays as it is.
     fn read(&mut self, key: u32, index: usize) -> Result<Row, Refusal>
         ensures answer { result ≡ reading (held self.old) key index }
-        ensures numbers { SameNumbers (held self.new) (held self.old) }
-        ensures after { Stays held faithful self.old self.new };
+        ensures after { held self.new ≡ held self.old };
 }

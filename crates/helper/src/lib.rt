@@ -11,7 +11,6 @@ mod refusal;
 mod table;
 
 pub use cache::Cache;
-pub use choice::Choice;
 pub use interface::Helper;
 pub use pair::Pair;
 pub use refusal::Refusal;

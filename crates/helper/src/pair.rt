@@ -1,7 +1,7 @@
 // Two helpers, of which one answers for a key.
 ghost use Rattle.std.specs.Prelude.{◌≡◌, ◌<◌};
-ghost use Rattle.helper.specs.Holding.{reading, SameNumbers, Stays};
-ghost use Rattle.helper.specs.Pairs.{of_pair, PairFaithful};
+ghost use Rattle.helper.specs.Holding.{reading};
+ghost use Rattle.helper.specs.Pairs.{of_pair};
 
 use crate::interface::Helper;
 use crate::refusal::Refusal;
@@ -17,8 +17,6 @@ pub struct Pair<A: Helper, B: Helper> {
 impl<A: Helper, B: Helper> Helper for Pair<A, B> {
     ghost held = { of_pair A.Helper.held B.Helper.held };
 
-    ghost faithful = { PairFaithful A.Helper.faithful B.Helper.faithful };
-
     fn number(&self, key: u32) -> usize {
         let number = self.first.number(key);
         if number > 0 {
@@ -31,8 +29,7 @@ impl<A: Helper, B: Helper> Helper for Pair<A, B> {
     // The interface's clauses, and that the half which is not asked stays as it is.
     fn read(&mut self, key: u32, index: usize) -> Result<Row, Refusal>
         ensures answer { result ≡ reading (of_pair A.Helper.held B.Helper.held self.old) key index }
-        ensures numbers { SameNumbers (of_pair A.Helper.held B.Helper.held self.new) (of_pair A.Helper.held B.Helper.held self.old) }
-        ensures after { Stays (of_pair A.Helper.held B.Helper.held) (PairFaithful A.Helper.faithful B.Helper.faithful) self.old self.new }
+        ensures after { of_pair A.Helper.held B.Helper.held self.new ≡ of_pair A.Helper.held B.Helper.held self.old }
         ensures first { (A.Helper.held self.old.first).number key ≡ 0 → self.new.first ≡ self.old.first }
         ensures second { 0 < (A.Helper.held self.old.first).number key → self.new.second ≡ self.old.second }
     {

@@ -18,13 +18,9 @@ impl<'a> Part<'a> {
         ensures bytes { result.bytes.now ≡ drop start bytes.now }
         ensures rows { result.rows ≡ rows }
     {
-        if start < bytes.len() {
-            Part {
-                bytes: &bytes[start..],
-                rows,
-            }
-        } else {
-            Part { bytes: &[], rows }
+        Part {
+            bytes: bytes.get(start..).unwrap_or(&[]),
+            rows,
         }
     }
 

@@ -4,7 +4,7 @@ ghost use Rattle.std.specs.Option.{option_map};
 ghost use Rattle.plan.specs.Keys.{owner};
 ghost use Rattle.plan.specs.View.{view};
 ghost use Rattle.layout.specs.Table.{find, section_of};
-ghost use Rattle.helper.specs.Holding.{reading, SameNumbers, Stays};
+ghost use Rattle.helper.specs.Holding.{reading};
 ghost use Rattle.helper.specs.Tables.{whole, part_reading, of_table, of_plan};
 
 use crate::interface::Helper;
@@ -49,8 +49,6 @@ impl<'a> Table<'a> {
 impl Helper for Table<'_> {
     ghost held = { of_table };
 
-    ghost faithful = { λ _. Unit {0} };
-
     fn number(&self, key: u32) -> usize {
         self.part(key).number()
     }
@@ -58,8 +56,7 @@ impl Helper for Table<'_> {
     // The interface's clauses, and that the table stays as it is.
     fn read(&mut self, key: u32, index: usize) -> Result<Row, Refusal>
         ensures answer { result ≡ reading (of_table self.old) key index }
-        ensures numbers { SameNumbers (of_table self.new) (of_table self.old) }
-        ensures after { Stays of_table (λ _. Unit {0}) self.old self.new }
+        ensures after { of_table self.new ≡ of_table self.old }
         ensures same { self.new ≡ self.old }
     {
         self.part(key).row(index)

@@ -1,12 +1,12 @@
 -- One bit set in a row of bytes.
-use Rattle.std.proofs.Common.{◌≡◌, ℕ, zero, suc, ◌+◌, ◌-◌, ◌*◌, ◌/◌, ◌%◌, ◌^◌, ◌<◌, ◌≤◌, Bool, true, false, ◌||◌, eqb, leb, List, length, get_or, set, replicate, None, Option, sym, refl, ap, ◌∙◌, inl, ⊎_elim, mod-lt, arith, pow_mono, w8}
+use Rattle.std.proofs.Common.{◌≡◌, ℕ, zero, suc, ◌*◌, ◌/◌, ◌%◌, ◌^◌, ◌<◌, ◌≤◌, false, ◌||◌, eqb, leb, List, length, get_or, set, replicate, None, Option, sym, refl, ap, ◌∙◌, inl, ⊎_elim, mod-lt, arith, pow_mono, w8}
 use native.Mathlib.Nat.{div-add-mod}
 use lib.Bits.{bit_or}
 use Rattle.std.proofs.lemmas.Nat.{pow_pos, div_below}
 use Rattle.std.proofs.lemmas.Nat.Bits.{bit_at_set_same, bit_at_set_other, bit_at-zero}
 use Rattle.std.proofs.lemmas.List.{get_or-set_same, get_or-set_other}
 use Rattle.std.proofs.Math.Bool.{or_comm, or_assoc, or-false}
-use Rattle.std.proofs.lemmas.Bool.{cases_eq, cases_order, eq-eqb, ne_eqb, leb-false, or_parts, cond-false}
+use Rattle.std.proofs.lemmas.Bool.{cases_eq, eq-eqb, ne_eqb, leb-false, or_parts, cond-false}
 use Rattle.ledger.specs.declared.refusal.Refusal.{Refusal}
 use Rattle.sizes.specs.declared.height.Height.{Height}
 use Rattle.sizes.specs.declared.height.Height.TheVariants.{Five, Ten}

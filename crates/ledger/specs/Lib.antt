@@ -3,3 +3,4 @@ pub mod Refusals
 pub mod Spend
 pub mod Marks
 pub mod Lowest
+pub mod Mirrors

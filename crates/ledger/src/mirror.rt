@@ -1,7 +1,7 @@
 // Two ledgers that are kept alike.
 ghost use Rattle.std.specs.Prelude.{◌≡◌};
 ghost use Rattle.std.specs.Result.{result_err};
-ghost use Rattle.ledger.specs.Standing.{both};
+ghost use Rattle.ledger.specs.Mirrors.{of_mirror};
 ghost use Rattle.ledger.specs.Spend.{spend_refusal, Altered};
 
 use crate::interface::Ledger;
@@ -15,7 +15,7 @@ pub struct Mirror<A: Ledger, B: Ledger> {
 }
 
 impl<A: Ledger, B: Ledger> Ledger for Mirror<A, B> {
-    ghost standing = { λ m. both (A.Ledger.standing m.first) (B.Ledger.standing m.second) };
+    ghost standing = { of_mirror A.Ledger.standing B.Ledger.standing };
 
     fn spent(&self, key: u32) -> bool {
         self.first.spent(key) || self.second.spent(key)
@@ -27,8 +27,8 @@ impl<A: Ledger, B: Ledger> Ledger for Mirror<A, B> {
 
     // The interface's clauses, and that a spend is made in both halves or in neither.
     fn spend(&mut self, key: u32) -> Result<(), Refusal>
-        ensures answer { result_err result ≡ spend_refusal (both (A.Ledger.standing self.old.first) (B.Ledger.standing self.old.second)) key }
-        ensures after { Altered (both (A.Ledger.standing self.old.first) (B.Ledger.standing self.old.second)) key (both (A.Ledger.standing self.new.first) (B.Ledger.standing self.new.second)) result }
+        ensures answer { result_err result ≡ spend_refusal (of_mirror A.Ledger.standing B.Ledger.standing self.old) key }
+        ensures after { Altered (of_mirror A.Ledger.standing B.Ledger.standing self.old) key (of_mirror A.Ledger.standing B.Ledger.standing self.new) result }
         ensures first { Altered (A.Ledger.standing self.old.first) key (A.Ledger.standing self.new.first) result }
         ensures second { Altered (B.Ledger.standing self.old.second) key (B.Ledger.standing self.new.second) result }
     {

@@ -61,14 +61,13 @@ impl<'a> Book<'a> {
         ensures { result ≡ row_of (levels self.now.height) (bits self.now.width) label.now }
     {
         let levels = self.height.levels();
+        let components = scheme::components(self.width);
         let positions = scheme::positions(self.width);
-        let i = label.i as usize;
-        let j = label.j as usize;
-        match label.kind {
-            PREFIX if i == 0 && j == 0 => Some(0),
-            CHECK_ROW if i < 8 && j == 0 => Some(1 + i),
-            PATH if i < levels && j == 0 => Some(9 + i),
-            CHAIN if i < scheme::components(self.width) && j < positions => Some(
+        match (label.kind, label.i as usize, label.j as usize) {
+            (PREFIX, 0, 0) => Some(0),
+            (CHECK_ROW, i @ 0..8, 0) => Some(1 + i),
+            (PATH, i, 0) if i < levels => Some(9 + i),
+            (CHAIN, i, j) if i < components && j < positions => Some(
                 9 + levels + positions * i + j,
             ),
             _ => None,

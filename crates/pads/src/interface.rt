@@ -24,8 +24,10 @@ pub trait Pads {
     fn pads(&self, labels: &[Label; 8]) -> [Row; 8]
         ensures { (n : ℕ) → n < 8 → slice_index_or result n [] ≡ (source self.now).pad (slice_index_or labels.now n nothing) }
     {
-        labels.map(|label| -> Row
-            ensures { result ≡ (source self.entry.now).pad label }
-        { self.pad(label) })
+        labels.map(
+            |label| -> Row
+                ensures { result ≡ (source self.entry.now).pad label }
+            { self.pad(label) },
+        )
     }
 }

@@ -1,58 +1,145 @@
--- Bytes cut into lines, as a loop over six bytes at a time meets them.
-use Rattle.std.proofs.Common.{◌≡◌, ℕ, ◌+◌, ◌-◌, ◌<◌, ◌≤◌, Bool, false, cond, ◌&&◌, ◌||◌, eqb, List, [], ◌∷◌, length, get_or, take, drop, sym, refl, ap, arith}
-use Rattle.std.proofs.lemmas.List.{take_rest, length-take, length-drop}
-use Rattle.tape.specs.Lines.{lines, line_key, unused, is_key, lists, blanks, all_unused, fresh_key, sound}
-
--- what a slice pattern calls the first six, and the rest after them
-abbrev pub six : List ℕ → List ℕ
-six xs = get_or xs 0 0 ∷ get_or xs 1 0 ∷ get_or xs 2 0 ∷ get_or xs 3 0 ∷ get_or xs 4 0 ∷ get_or xs 5 0 ∷ []
-
-abbrev pub after : List ℕ → List ℕ
-after xs = take (length xs - 6) (drop 6 xs)
-
-pub lines_step : (xs : List ℕ) → 6 ≤ length xs → lines xs ≡ six xs ∷ lines (after xs)
-unfolding lines
-lines_step [] h = absurd (omega arith)
-lines_step (a ∷ []) h = absurd (omega arith)
-lines_step (a ∷ b ∷ []) h = absurd (omega arith)
-lines_step (a ∷ b ∷ c ∷ []) h = absurd (omega arith)
-lines_step (a ∷ b ∷ c ∷ d ∷ []) h = absurd (omega arith)
-lines_step (a ∷ b ∷ c ∷ d ∷ e ∷ []) h = absurd (omega arith)
-lines_step (a ∷ b ∷ c ∷ d ∷ e ∷ f ∷ rest) h = ap (λ t. (a ∷ b ∷ c ∷ d ∷ e ∷ f ∷ []) ∷ lines t) (sym (take_rest (a ∷ b ∷ c ∷ d ∷ e ∷ f ∷ rest) 6))
-
-pub length_after : (xs : List ℕ) → 6 ≤ length xs → length (after xs) + 6 ≡ length xs
-length_after xs h = simp (length-take, length-drop) (omega arith)
+-- Bytes cut into lines, as a reader of six bytes at a time meets them.
+use Rattle.std.proofs.Common.{◌≡◌, ℕ, zero, suc, ◌+◌, ◌*◌, ◌%◌, ◌<◌, ◌≤◌, Bool, true, false, cond, not, ◌&&◌, ◌||◌, eqb, List, [], ◌∷◌, ◌++◌, length, Some, None, Option, MatchOption, ltb, sym, refl, ap, ◌∙◌, subst, ⊎_elim, arith}
+use Rattle.std.specs.List.{filter, position_or_len}
+use Rattle.std.proofs.lemmas.Iterator.{YieldsList}
+use Rattle.std.proofs.lemmas.Iterator.Consumers.{YieldsList-from_shown}
+use Rattle.std.proofs.lemmas.Bool.{cases_Bool, cond-true, cond-false, ltb-true, ltb-false}
+use Rattle.tape.specs.Lines.{lines, line_key, unused, is_key, lists, blanks, all_unused, fresh_key, FirstUnused, sound, Reads}
+use Rattle.tape.proofs.Taping.{lines_cons}
 
 -- what is left when no whole line is
-pub record Rest (xs : List ℕ) : Type 0 where
-  pub none_listed : (key : ℕ) → lists (lines xs) key ≡ false
-  pub none_unused : blanks (lines xs) ≡ 0
-  pub all_are : all_unused (lines xs) ≡ eqb (length xs) 0
-  pub is_sound : (limit : ℕ) → sound limit (lines xs) ≡ eqb (length xs) 0
-
-pub rest_of : (xs : List ℕ) → length xs < 6 → Rest xs
+pub rest_sound : (xs rest : List ℕ) (limit : ℕ) → (length xs < 6) × (rest ≡ xs) → eqb (length rest) 0 ≡ sound limit (lines xs)
 unfolding lines
-rest_of [] h = record { none_listed = λ key. refl; none_unused = refl; all_are = refl; is_sound = λ limit. refl }
-rest_of (a ∷ []) h = record { none_listed = λ key. refl; none_unused = refl; all_are = refl; is_sound = λ limit. refl }
-rest_of (a ∷ b ∷ []) h = record { none_listed = λ key. refl; none_unused = refl; all_are = refl; is_sound = λ limit. refl }
-rest_of (a ∷ b ∷ c ∷ []) h = record { none_listed = λ key. refl; none_unused = refl; all_are = refl; is_sound = λ limit. refl }
-rest_of (a ∷ b ∷ c ∷ d ∷ []) h = record { none_listed = λ key. refl; none_unused = refl; all_are = refl; is_sound = λ limit. refl }
-rest_of (a ∷ b ∷ c ∷ d ∷ e ∷ []) h = record { none_listed = λ key. refl; none_unused = refl; all_are = refl; is_sound = λ limit. refl }
-rest_of (a ∷ b ∷ c ∷ d ∷ e ∷ f ∷ rest) h = absurd (omega arith)
+rest_sound xs rest limit end = ap (λ ys. eqb (length ys) 0) end.1 ∙ sym (short xs end.0)
+  where
+    short : (ys : List ℕ) → length ys < 6 → sound limit (lines ys) ≡ eqb (length ys) 0
+    short [] h = refl
+    short (a ∷ []) h = refl
+    short (a ∷ b ∷ []) h = refl
+    short (a ∷ b ∷ c ∷ []) h = refl
+    short (a ∷ b ∷ c ∷ d ∷ []) h = refl
+    short (a ∷ b ∷ c ∷ d ∷ e ∷ []) h = refl
+    short (a ∷ b ∷ c ∷ d ∷ e ∷ f ∷ more) h = absurd (omega arith)
 
--- one whole line
-module _ (xs : List ℕ) (h : 6 ≤ length xs) where
-  pub lists_step : (key : ℕ) → lists (lines xs) key ≡ (is_key (line_key (six xs)) key || lists (lines (after xs)) key)
-  lists_step key = ap (λ ls. lists ls key) (lines_step xs h)
+-- what a line that was read settles
+module _ (bytes line rest : List ℕ) (limit : ℕ) (read : (length line ≡ 6) × (bytes ≡ line ++ rest)) where
+  step : sound limit (lines bytes) ≡ cond (unused line) (all_unused (lines rest)) (fresh_key limit (line_key line) (lines rest) && sound limit (lines rest))
+  step = ap (sound limit) (ap lines read.1 ∙ lines_cons line rest read.0)
 
-  pub blanks_step : blanks (lines xs) ≡ cond (unused (six xs)) 1 0 + blanks (lines (after xs))
-  blanks_step = ap blanks (lines_step xs h)
+  pub sound_unused : true ≡ unused line → sound limit (lines bytes) ≡ all_unused (lines rest)
+  sound_unused u = step ∙ ap (λ b. cond b (all_unused (lines rest)) (fresh_key limit (line_key line) (lines rest) && sound limit (lines rest))) (sym u)
 
-  pub all_step : all_unused (lines xs) ≡ (unused (six xs) && all_unused (lines (after xs)))
-  all_step = ap all_unused (lines_step xs h)
+  pub sound_used : (fresh : Bool) → false ≡ unused line → fresh ≡ fresh_key limit (line_key line) (lines rest) → sound limit (lines bytes) ≡ (fresh && sound limit (lines rest))
+  sound_used fresh u f = step ∙ ap (λ b. cond b (all_unused (lines rest)) (fresh_key limit (line_key line) (lines rest) && sound limit (lines rest))) (sym u) ∙ ap (λ b. b && sound limit (lines rest)) (sym f)
 
-  pub sound_step : (limit : ℕ) → sound limit (lines xs) ≡ cond (unused (six xs)) (all_unused (lines (after xs))) (fresh_key limit (line_key (six xs)) (lines (after xs)) && sound limit (lines (after xs)))
-  sound_step limit = ap (sound limit) (lines_step xs h)
+-- the whole lines alone
+unfoldable pub whole_ones : List ℕ → List (List ℕ)
+whole_ones (a ∷ b ∷ c ∷ d ∷ e ∷ f ∷ rest) = (a ∷ b ∷ c ∷ d ∷ e ∷ f ∷ []) ∷ whole_ones rest
+whole_ones _ = []
 
-pub one_if : {b c : Bool} → b ≡ c → ◌≡◌ {A = ℕ} (cond b 1 0) (cond c 1 0)
-one_if e = ap (λ x. cond x 1 0) e
+and_swap : (a b c : Bool) → (a && (b && c)) ≡ (b && (a && c))
+and_swap true b c = refl
+and_swap false true c = refl
+and_swap false false c = refl
+
+-- what is left over lists no key and is not unused
+pub record Cut (xs : List ℕ) : Type 0 where
+  pub listed : (key : ℕ) → lists (lines xs) key ≡ lists (whole_ones xs) key
+  pub unused_ones : blanks (lines xs) ≡ blanks (whole_ones xs)
+  pub all : all_unused (lines xs) ≡ (eqb (length xs % 6) 0 && all_unused (whole_ones xs))
+  pub fits : 6 * length (whole_ones xs) ≤ length xs
+
+pub cut : (xs : List ℕ) → Cut xs
+unfolding lines whole_ones
+cut [] = record { listed = λ key. refl; unused_ones = refl; all = refl; fits = omega arith }
+cut (a ∷ []) = record { listed = λ key. refl; unused_ones = refl; all = refl; fits = omega arith }
+cut (a ∷ b ∷ []) = record { listed = λ key. refl; unused_ones = refl; all = refl; fits = omega arith }
+cut (a ∷ b ∷ c ∷ []) = record { listed = λ key. refl; unused_ones = refl; all = refl; fits = omega arith }
+cut (a ∷ b ∷ c ∷ d ∷ []) = record { listed = λ key. refl; unused_ones = refl; all = refl; fits = omega arith }
+cut (a ∷ b ∷ c ∷ d ∷ e ∷ []) = record { listed = λ key. refl; unused_ones = refl; all = refl; fits = omega arith }
+cut (a ∷ b ∷ c ∷ d ∷ e ∷ f ∷ rest) =
+    let line = a ∷ b ∷ c ∷ d ∷ e ∷ f ∷ [] in
+    let r = cut rest in
+    let long : length (a ∷ b ∷ c ∷ d ∷ e ∷ f ∷ rest) % 6 ≡ length rest % 6 = omega arith in
+    record {
+      listed = λ key. ap (λ t. is_key (line_key line) key || t) (r.listed key);
+      unused_ones = ap (λ n. cond (unused line) 1 0 + n) r.unused_ones;
+      all = ap (λ t. unused line && t) r.all ∙ and_swap (unused line) (eqb (length rest % 6) 0) (all_unused (whole_ones rest)) ∙ ap (λ n. eqb n 0 && (unused line && all_unused (whole_ones rest))) (sym long);
+      fits = omega (arith, r.fits);
+    }
+
+-- a reader of the bytes gives the whole lines
+whole_cons : (line rest : List ℕ) → length line ≡ 6 → whole_ones (line ++ rest) ≡ line ∷ whole_ones rest
+unfolding whole_ones
+whole_cons [] rest h = absurd (omega arith)
+whole_cons (a ∷ []) rest h = absurd (omega arith)
+whole_cons (a ∷ b ∷ []) rest h = absurd (omega arith)
+whole_cons (a ∷ b ∷ c ∷ []) rest h = absurd (omega arith)
+whole_cons (a ∷ b ∷ c ∷ d ∷ []) rest h = absurd (omega arith)
+whole_cons (a ∷ b ∷ c ∷ d ∷ e ∷ []) rest h = absurd (omega arith)
+whole_cons (a ∷ b ∷ c ∷ d ∷ e ∷ f ∷ []) rest h = refl
+whole_cons (a ∷ b ∷ c ∷ d ∷ e ∷ f ∷ g ∷ more) rest h = absurd (omega arith)
+
+module _ {S : Type 0} (bytes : S → List ℕ) where
+  steps : S → Option (List ℕ) → S → Type 0
+  steps s r t = Reads (bytes s) r (bytes t)
+
+  pub road : (s : S) → YieldsList (λ s r t. Reads (bytes s) r (bytes t)) (λ line. line) s (whole_ones (bytes s))
+  road s = YieldsList-from_shown (λ s r t. Reads (bytes s) r (bytes t)) (λ line. line) (λ s. whole_ones (bytes s))
+      (λ s t e. let none : 6 * length (whole_ones (bytes s)) ≤ length (bytes s) = (cut (bytes s)).fits in let short : length (bytes s) < 6 = e.0 in omega arith)
+      (λ s x t e. ap whole_ones e.1 ∙ whole_cons x (bytes t) e.0)
+      s
+
+-- the first unused one
+first_in : (ls : List (List ℕ)) → (position_or_len unused ls < length ls → FirstUnused ls (position_or_len unused ls)) × (length ls ≤ position_or_len unused ls → blanks ls ≡ 0)
+first_in [] = (λ h. absurd (omega arith), λ h. refl)
+first_in (l ∷ ls) =
+    let p = position_or_len unused ls in
+    ⊎_elim
+    (λ (u : unused l ≡ true).
+    let at : position_or_len unused (l ∷ ls) ≡ 0 = ap (λ b. cond (not b) (1 + p) 0) u in
+    (λ h. subst (FirstUnused (l ∷ ls)) (sym at) u, λ h. absurd (omega (arith, at))))
+    (λ (u : unused l ≡ false).
+    let at : position_or_len unused (l ∷ ls) ≡ suc p = ap (λ b. cond (not b) (1 + p) 0) u ∙ omega arith in
+    let none : ◌≡◌ {A = ℕ} (cond (unused l) 1 0) 0 = ap (λ b. cond b 1 0) u in
+    (λ h. subst (FirstUnused (l ∷ ls)) (sym at) (u, (first_in ls).0 (omega (arith, at))), λ h. let rest = (first_in ls).1 (omega (arith, at)) in omega (arith, none, rest)))
+    (cases_Bool (unused l))
+
+first_whole : (xs : List ℕ) (i : ℕ) → FirstUnused (whole_ones xs) i → FirstUnused (lines xs) i
+unfolding lines whole_ones
+first_whole [] i h = absurd h
+first_whole (a ∷ []) i h = absurd h
+first_whole (a ∷ b ∷ []) i h = absurd h
+first_whole (a ∷ b ∷ c ∷ []) i h = absurd h
+first_whole (a ∷ b ∷ c ∷ d ∷ []) i h = absurd h
+first_whole (a ∷ b ∷ c ∷ d ∷ e ∷ []) i h = absurd h
+first_whole (a ∷ b ∷ c ∷ d ∷ e ∷ f ∷ rest) zero h = h
+first_whole (a ∷ b ∷ c ∷ d ∷ e ∷ f ∷ rest) (suc i) h = (h.0, first_whole rest i h.1)
+
+-- where a search for an unused line ends
+pub placed : (xs : List ℕ) (r : Option ℕ) → r ≡ cond (ltb (position_or_len unused (whole_ones xs)) (length (whole_ones xs))) (Some (position_or_len unused (whole_ones xs))) None →
+    MatchOption r (blanks (lines xs) ≡ 0) (λ i. (6 * i + 6 ≤ length xs) × FirstUnused (lines xs) i)
+placed xs r e =
+    let ls = whole_ones xs in
+    let p = position_or_len unused ls in
+    let P : Option ℕ → Type 0 = λ o. MatchOption o (blanks (lines xs) ≡ 0) (λ i. (6 * i + 6 ≤ length xs) × FirstUnused (lines xs) i) in
+    ⊎_elim
+    (λ (t : ltb p (length ls) ≡ true). let below = ltb-true p (length ls) t in subst P (sym (e ∙ cond-true (ltb p (length ls)) (Some p) None t)) (omega (arith, (cut xs).fits, below), first_whole xs p ((first_in ls).0 below)))
+    (λ (f : ltb p (length ls) ≡ false). subst P (sym (e ∙ cond-false (ltb p (length ls)) (Some p) None f)) ((cut xs).unused_ones ∙ (first_in ls).1 (ltb-false p (length ls) f)))
+    (cases_Bool (ltb p (length ls)))
+
+-- how many are unused
+pub blank_count : (ls : List (List ℕ)) → length (filter unused ls) ≡ blanks ls
+blank_count [] = refl
+blank_count (l ∷ ls) =
+    let fs = filter unused ls in
+    ⊎_elim
+    (λ (u : unused l ≡ true).
+    let kept : length (filter unused (l ∷ ls)) ≡ suc (length fs) = ap (λ b. length (cond b (l ∷ fs) fs)) u in
+    let one : ◌≡◌ {A = ℕ} (cond (unused l) 1 0) 1 = ap (λ b. cond b 1 0) u in
+    omega (arith, kept, one, blank_count ls))
+    (λ (u : unused l ≡ false).
+    let kept : length (filter unused (l ∷ ls)) ≡ length fs = ap (λ b. length (cond b (l ∷ fs) fs)) u in
+    let none : ◌≡◌ {A = ℕ} (cond (unused l) 1 0) 0 = ap (λ b. cond b 1 0) u in
+    omega (arith, kept, none, blank_count ls))
+    (cases_Bool (unused l))

@@ -2,6 +2,7 @@
 use Rattle.std.proofs.Common.{◌≡◌, ℕ, zero, suc, ◌+◌, ◌-◌, ◌*◌, ◌/◌, ◌%◌, ◌^◌, ◌<◌, ◌≤◌, Bool, true, false, cond, not, ◌&&◌, ◌||◌, eqb, ltb, leb, List, [], ◌∷◌, ◌++◌, map, length, get_or, take, replicate, Some, None, Option, sym, refl, ap, ◌∙◌, ⊎_elim, append_assoc, arith}
 use Rattle.std.specs.List.{flat_map, AllByRecursion as All}
 use Rattle.std.proofs.lemmas.List.{append-nil, length-append, take_at, get_or_at, replicate-append-replicate, nil_from_length, take_more, take_all, length-take-le, length-replicate}
+use Rattle.std.proofs.Math.Bool.{or-false}
 use Rattle.std.proofs.lemmas.Bool.{and_parts, and_from, cases_Bool, cond-true, cond-false, eq-eqb, eqb-true, ltb-true, lt-ltb, not-true, not_from_false, false≢true}
 use Rattle.sizes.specs.Sizes.{levels}
 use Rattle.columns.specs.Number.{spaces, right, unpadded, number, blank}
@@ -218,8 +219,4 @@ spaces_free n h k intact bytes w i e =
     let m : n ≡ 6 * (n / 6) = omega (arith, eqb-true (n % 6) 0 w) in
     ap (λ b. not b || (leb (2 ^ h) k || lists (lines bytes) k)) i
     ∙ ap (λ ls. leb (2 ^ h) k || lists ls k) (ap lines (e ∙ ap spaces m) ∙ lines_spaces (n / 6))
-    ∙ ap (λ b. leb (2 ^ h) k || b) (lists_blank (n / 6) k) ∙ nothing (leb (2 ^ h) k)
-  where
-    nothing : (b : Bool) → (b || false) ≡ b
-    nothing true = refl
-    nothing false = refl
+    ∙ ap (λ b. leb (2 ^ h) k || b) (lists_blank (n / 6) k) ∙ or-false (leb (2 ^ h) k)

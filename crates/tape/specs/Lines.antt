@@ -1,6 +1,6 @@
 -- What the bytes of a tape say.
-use Rattle.std.specs.Prelude.{◌≡◌, ℕ, zero, suc, ◌+◌, ◌*◌, ◌/◌, ◌%◌, Bool, true, false, cond, not, ◌&&◌, ◌||◌, List, [], ◌∷◌, ◌++◌, length, take, Some, None, Option, ◌==◌, nat_lt, slice_index}
-use Rattle.std.specs.List.{flat_map}
+use Rattle.std.specs.Prelude.{◌≡◌, ℕ, zero, suc, ◌+◌, ◌*◌, ◌/◌, ◌%◌, Bool, true, false, cond, not, ◌&&◌, List, [], ◌∷◌, ◌++◌, length, take, Some, None, Option, MatchOption, ◌<◌, ◌==◌, nat_lt, slice_index}
+use Rattle.std.specs.List.{flat_map, list_any, list_all}
 use Rattle.columns.specs.Number.{spaces, right, number, blank}
 
 -- the line of a key: its number in 5 columns, and a line feed
@@ -21,6 +21,10 @@ lines (a ∷ b ∷ c ∷ d ∷ []) = (a ∷ b ∷ c ∷ d ∷ []) ∷ []
 lines (a ∷ b ∷ c ∷ d ∷ e ∷ []) = (a ∷ b ∷ c ∷ d ∷ e ∷ []) ∷ []
 lines (a ∷ b ∷ c ∷ d ∷ e ∷ f ∷ rest) = (a ∷ b ∷ c ∷ d ∷ e ∷ f ∷ []) ∷ lines rest
 
+-- one step of a reader: it takes a whole line from the front, or stays where it is where none is left
+abbrev pub Reads : List ℕ → Option (List ℕ) → List ℕ → Type 0
+Reads bytes r rest = MatchOption r ((length bytes < 6) × (rest ≡ bytes)) (λ line. (length line ≡ 6) × (bytes ≡ line ++ rest))
+
 -- the key that a line lists, if it is a used line
 abbrev pub line_key : List ℕ → Option ℕ
 line_key line = cond (length line == 6 && slice_index line 5 == 10) (number (take 5 line)) None
@@ -35,8 +39,7 @@ is_key (Some n) key = n == key
 
 -- whether a key is listed
 abbrev pub lists : List (List ℕ) → ℕ → Bool
-lists [] key = false
-lists (line ∷ rest) key = is_key (line_key line) key || lists rest key
+lists ls key = list_any (λ line. is_key (line_key line) key) ls
 
 -- how many lines are unused
 abbrev pub blanks : List (List ℕ) → ℕ
@@ -44,8 +47,7 @@ blanks [] = 0
 blanks (line ∷ rest) = cond (unused line) 1 0 + blanks rest
 
 abbrev pub all_unused : List (List ℕ) → Bool
-all_unused [] = true
-all_unused (line ∷ rest) = unused line && all_unused rest
+all_unused ls = list_all unused ls
 
 -- a key of the tree that no later line lists
 abbrev pub fresh_key : ℕ → Option ℕ → List (List ℕ) → Bool

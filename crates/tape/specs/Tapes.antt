@@ -1,6 +1,8 @@
 -- What a tape means, and when its bytes are in order.
 use Rattle.std.specs.Prelude.{ℕ, ◌%◌, ◌^◌, Bool, cond, not, ◌||◌, List, length, Some, None, Option, ◌==◌, nat_le}
 use Rattle.ledger.specs.Standing.{Standing}
+use Rattle.sizes.specs.Sizes.{levels}
+use Rattle.tape.specs.declared.tapes.Tape.{Tape}
 use Rattle.tape.specs.declared.refusal.Refusal.{Refusal}
 use Rattle.tape.specs.declared.refusal.Refusal.TheVariants.{Damaged}
 use Rattle.tape.specs.Lines.{lines, lists, blanks, sound}
@@ -11,6 +13,9 @@ of_tape intact h bytes = record {
   spent = λ k. not intact || (nat_le (2 ^ h) k || lists (lines bytes) k);
   room = cond intact (blanks (lines bytes)) 0;
 }
+
+abbrev pub standing_of : Tape → Standing
+standing_of t = of_tape t.intact (levels t.height) t.bytes.now
 
 -- the bytes are in order for a tree of height h
 abbrev pub accepted : ℕ → List ℕ → Bool

@@ -1,6 +1,7 @@
 // The tape: a ledger on borrowed bytes, with a line for each key that was spent.
 #![tactic(auto)]
 
+mod line;
 mod lines;
 mod refusal;
 mod spending;

@@ -1,144 +1,74 @@
-// The lines of a tape: six bytes each.
-ghost use Rattle.std.specs.Prelude.{◌≡◌, ℕ, ◌+◌, ◌*◌, ◌<◌, ◌≤◌, length, MatchOption};
-ghost use Rattle.tape.specs.Lines.{lines, line_of, line_key, is_key, unused, lists, blanks, all_unused, fresh_key, sound, column_of, FirstUnused};
+// The lines of a tape, read one after the other.
+ghost use Rattle.std.specs.Prelude.{◌≡◌, length};
+ghost use Rattle.std.specs.Iterator.{at_most};
+ghost use Rattle.tape.specs.Lines.{lines, line_key, is_key, lists, blanks, all_unused, fresh_key, sound, Reads};
 
-// The key that a line lists, if it is a used line.
-pub(crate) fn key_in(line: &[u8; 6]) -> Option<u32>
-    ensures { result ≡ line_key line.now }
-{
-    if line[5] != b'\n' {
-        return None;
+use crate::line::{is_unused, key_in};
+
+// The whole lines at the front of some bytes; what is left over at the end is no line.
+#[derive(Drop)]
+pub(crate) struct Lines<'a>(pub(crate) &'a [u8]);
+
+impl Iterator for Lines<'_> {
+    type Item = [u8; 6];
+
+    ghost next_gives = { λ s r t. Reads s.0.now r t.0.now };
+
+    ghost remaining = { λ s. at_most (length s.0.now) };
+
+    fn next(&mut self) -> Option<[u8; 6]> {
+        let [a, b, c, d, e, f, rest @ ..] = self.0 else {
+            return None;
+        };
+        self.0 = rest;
+        Some([*a, *b, *c, *d, *e, *f])
     }
-    columns::number_in(&line[0..5])
-}
-
-// Whether a line lists a key.
-fn lists_key(line: &[u8; 6], key: u32) -> bool
-    ensures { result ≡ is_key (line_key line.now) key }
-{
-    match key_in(line) {
-        Some(listed) => listed == key,
-        None => false,
-    }
-}
-
-// Whether a line is unused: six spaces.
-pub(crate) fn is_unused(line: &[u8; 6]) -> bool
-    ensures { result ≡ unused line.now }
-{
-    columns::is_blank(line)
 }
 
 // Whether a key is listed.
 pub(crate) fn is_listed(bytes: &[u8], key: u32) -> bool
     ensures { result ≡ lists (lines bytes.now) key }
 {
-    let mut left = bytes;
-    while let [a, b, c, d, e, f, rest @ ..] = left {
-        if lists_key(&[*a, *b, *c, *d, *e, *f], key) {
-            return true;
-        }
-        left = rest;
-    }
-    false
+    Lines(bytes).any(
+        |line| -> bool
+            ensures { result ≡ is_key (line_key line) key }
+        { key_in(line) == Some(key) },
+    )
 }
 
 // How many lines are unused.
 pub(crate) fn unused_lines(bytes: &[u8]) -> usize
     ensures { result ≡ blanks (lines bytes.now) }
 {
-    let mut left = bytes;
-    let mut count = 0;
-    while let [a, b, c, d, e, f, rest @ ..] = left {
-        if is_unused(&[*a, *b, *c, *d, *e, *f]) {
-            count += 1;
-        }
-        left = rest;
-    }
-    count
+    Lines(bytes).filter(|line| is_unused(*line)).count()
 }
 
-// Where the first unused line begins.
-pub(crate) fn first_unused(bytes: &[u8]) -> Option<usize>
-    ensures { MatchOption result (blanks (lines bytes.now) ≡ 0) (λ at. (at + 6 ≤ length bytes.now) × ((i : ℕ) × (at ≡ 6 * i) × FirstUnused (lines bytes.now) i)) }
-{
-    let mut left = bytes;
-    let mut at = 0;
-    while let [a, b, c, d, e, f, rest @ ..] = left {
-        if is_unused(&[*a, *b, *c, *d, *e, *f]) {
-            return Some(at);
-        }
-        left = rest;
-        at += 6;
-    }
-    None
-}
-
-// Whether all lines are unused.
-pub(crate) fn are_unused(bytes: &[u8]) -> bool
+// Whether all lines are unused, and nothing is left over.
+fn are_unused(bytes: &[u8]) -> bool
     ensures { result ≡ all_unused (lines bytes.now) }
 {
-    let mut left = bytes;
-    while let [a, b, c, d, e, f, rest @ ..] = left {
-        if !is_unused(&[*a, *b, *c, *d, *e, *f]) {
-            return false;
-        }
-        left = rest;
-    }
-    left.is_empty()
+    bytes.len() % 6 == 0 && Lines(bytes).all(is_unused)
 }
 
 // Whether a line lists a key below a limit that no later line lists.
-fn is_fresh(line: &[u8; 6], limit: u32, rest: &[u8]) -> bool
-    ensures { result ≡ fresh_key limit (line_key line.now) (lines rest.now) }
+fn is_fresh(line: [u8; 6], limit: u32, rest: &[u8]) -> bool
+    ensures { result ≡ fresh_key limit (line_key line) (lines rest.now) }
 {
-    match key_in(line) {
-        Some(key) => key < limit && !is_listed(rest, key),
-        None => false,
-    }
+    key_in(line).is_some_and(|key| key < limit && !is_listed(rest, key))
 }
 
 // Whether the lines are used ones with distinct keys below a limit, and then unused ones.
 pub(crate) fn are_sound(bytes: &[u8], limit: u32) -> bool
     ensures { result ≡ sound limit (lines bytes.now) }
 {
-    let mut left = bytes;
-    while let [a, b, c, d, e, f, rest @ ..] = left {
-        let line = [*a, *b, *c, *d, *e, *f];
-        if is_unused(&line) {
-            return are_unused(rest);
+    let mut left = Lines(bytes);
+    while let Some(line) = left.next() {
+        if is_unused(line) {
+            return are_unused(left.0);
         }
-        if !is_fresh(&line, limit, rest) {
+        if !is_fresh(line, limit, left.0) {
             return false;
         }
-        left = rest;
     }
-    left.is_empty()
-}
-
-// The line of a key.
-pub(crate) fn line_of(key: u32) -> [u8; 6]
-    requires { key < 1024 }
-    ensures { result ≡ line_of key }
-{
-    [
-        b' ',
-        column(key, 1000),
-        column(key, 100),
-        column(key, 10),
-        (key % 10) as u8 + b'0',
-        b'\n',
-    ]
-}
-
-// The digit of a key at a power of ten, or a space where the key is smaller.
-fn column(key: u32, unit: u32) -> u8
-    requires { 0 < unit }
-    ensures { result ≡ column_of key unit }
-{
-    if key < unit {
-        b' '
-    } else {
-        (key / unit % 10) as u8 + b'0'
-    }
+    left.0.is_empty()
 }

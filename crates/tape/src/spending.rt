@@ -1,26 +1,26 @@
 // A tape as a ledger.
-ghost use Rattle.std.specs.Prelude.{◌≡◌, ℕ, ◌+◌, ◌*◌, ◌≤◌, length, MatchOption, MatchResult};
+ghost use Rattle.std.specs.Prelude.{◌≡◌, ◌+◌, ◌*◌, ◌≤◌, length, MatchOption, MatchResult};
 ghost use Rattle.std.specs.Result.{result_err};
-ghost use Rattle.sizes.specs.Sizes.{levels};
 ghost use Rattle.ledger.specs.Spend.{spend_refusal, Altered};
 ghost use Rattle.tape.specs.Lines.{lines, blanks, FirstUnused, spent_on, flat};
-ghost use Rattle.tape.specs.Tapes.{of_tape};
+ghost use Rattle.tape.specs.Tapes.{standing_of};
 
-use crate::lines::{first_unused, is_listed, line_of, unused_lines};
+use crate::line::{is_unused, line_of};
+use crate::lines::{Lines, is_listed, unused_lines};
 use crate::tapes::Tape;
 use ledger::{Ledger, Refusal};
 
 impl Tape<'_> {
-    // Where the first unused line begins.
+    // Which line is the first unused one.
     fn first_unused(&self) -> Option<usize>
-        ensures { MatchOption result (blanks (lines self.now.bytes.now) ≡ 0) (λ at. (at + 6 ≤ length self.now.bytes.now) × ((i : ℕ) × (at ≡ 6 * i) × FirstUnused (lines self.now.bytes.now) i)) }
+        ensures { MatchOption result (blanks (lines self.now.bytes.now) ≡ 0) (λ i. (6 * i + 6 ≤ length self.now.bytes.now) × FirstUnused (lines self.now.bytes.now) i) }
     {
-        first_unused(self.bytes)
+        Lines(self.bytes).position(is_unused)
     }
 }
 
 impl Ledger for Tape<'_> {
-    ghost standing = { λ t. of_tape t.intact (levels t.height) t.bytes.now };
+    ghost standing = { standing_of };
 
     fn spent(&self, key: u32) -> bool {
         !self.intact || key >= self.height.keys() || is_listed(self.bytes, key)
@@ -36,8 +36,8 @@ impl Ledger for Tape<'_> {
 
     // The interface's clauses; which bytes are written; and that it is still the same bytes, tree and tape.
     fn spend(&mut self, key: u32) -> Result<(), Refusal>
-        ensures answer { result_err result ≡ spend_refusal (of_tape self.old.intact (levels self.old.height) self.old.bytes.now) key }
-        ensures after { Altered (of_tape self.old.intact (levels self.old.height) self.old.bytes.now) key (of_tape self.new.intact (levels self.new.height) self.new.bytes.now) result }
+        ensures answer { result_err result ≡ spend_refusal (standing_of self.old) key }
+        ensures after { Altered (standing_of self.old) key (standing_of self.new) result }
         ensures bytes { MatchResult result (λ _. self.new.bytes.now ≡ flat (spent_on (lines self.old.bytes.now) key)) (λ _. self.new.bytes.now ≡ self.old.bytes.now) }
         ensures lender { self.new.bytes.ghost_name ≡ self.old.bytes.ghost_name }
         ensures same { (self.new.intact ≡ self.old.intact) × (self.new.height ≡ self.old.height) }
@@ -45,9 +45,10 @@ impl Ledger for Tape<'_> {
         if self.spent(key) {
             return Err(Refusal::Spent);
         }
-        let Some(at) = self.first_unused() else {
+        let Some(line) = self.first_unused() else {
             return Err(Refusal::NoRoom);
         };
+        let at = 6 * line;
         self.bytes[at..at + 6].copy_from_slice(&line_of(key));
         Ok(())
     }

@@ -4,7 +4,7 @@ ghost use Rattle.std.specs.Result.{result_err};
 ghost use Rattle.columns.specs.Number.{spaces};
 ghost use Rattle.sizes.specs.Sizes.{levels};
 ghost use Rattle.ledger.specs.Standing.{Fresh};
-ghost use Rattle.tape.specs.Tapes.{accepted, whole_lines, tape_fault, new_fault, of_tape};
+ghost use Rattle.tape.specs.Tapes.{accepted, whole_lines, tape_fault, new_fault, standing_of};
 ghost use Rattle.tape.specs.Laws.{TapesHold};
 
 use crate::lines::are_sound;
@@ -12,6 +12,7 @@ use crate::refusal::Refusal;
 use sizes::Height;
 
 // A tape that is not intact was made of damaged bytes: it leaves them alone, every key is spent, and there is no room.
+// This is a flag, since such a tape has its bytes and its tree too: an enum would name the same two fields twice.
 #[derive(Drop)]
 pub struct Tape<'a> {
     pub(crate) bytes: &'a mut [u8],
@@ -64,7 +65,7 @@ impl<'a> Tape<'a> {
         ensures bytes { result.bytes.now ≡ (if whole_lines bytes.old then spaces (length bytes.old) else bytes.old) }
         ensures height { result.height ≡ height }
         ensures intact { result.intact ≡ whole_lines bytes.old }
-        ensures fresh { whole_lines bytes.old ≡ true → Fresh (levels height) (of_tape result.intact (levels result.height) result.bytes.now) }
+        ensures fresh { whole_lines bytes.old ≡ true → Fresh (levels height) (standing_of result) }
     {
         let intact = Tape::check_new(bytes).is_ok();
         if intact {

@@ -15,18 +15,17 @@ returns c =
     let h = levels t.height in
     let free = sym c.if-spent.ensures in
     let got = c.in-Some.ensures in
-    let at = c.in-Some.at in
-    let i = got.1.0 in
-    let at-is : at ≡ 6 * i = got.1.1 in
-    let fits : 6 * i + 6 ≤ length bytes = omega (arith, got.0, at-is) in
+    let i = c.in-Some.line in
+    let at = 6 * i in
+    let fits : 6 * i + 6 ≤ length bytes = got.0 in
     let small : key < 100000 = omega (arith, key_below t.intact h bytes key free, keys_most t.height) in
     let six : (at + 6) - at ≡ 6 = omega arith in
     let line : c.copy_from_slice.new.self ≡ line_of key = c.copy_from_slice.ensures.after ∙ c.line_of.ensures in
-    let put : put_mid at ((at + 6) - at) bytes c.copy_from_slice.new.self ≡ take (6 * i) bytes ++ (line_of key ++ drop 6 (drop (6 * i) bytes)) = λ j. put_mid (at-is j) (six j) bytes (line j) in
+    let put : put_mid at ((at + 6) - at) bytes c.copy_from_slice.new.self ≡ take (6 * i) bytes ++ (line_of key ++ drop 6 (drop (6 * i) bytes)) = λ j. put_mid at (six j) bytes (line j) in
     record {
-      answer = sym (cond-false _ _ _ free ∙ cond-false _ _ _ (ne_eqb (cond t.intact (blanks (lines bytes)) 0) 0 (some_room t.intact h bytes key free i fits got.1.2 small)));
-      after = spends t.intact h bytes key free i fits got.1.2 small _ put;
-      bytes = after_is t.intact h bytes key free i fits got.1.2 small _ put;
+      answer = sym (cond-false _ _ _ free ∙ cond-false _ _ _ (ne_eqb (cond t.intact (blanks (lines bytes)) 0) 0 (some_room t.intact h bytes key free i fits got.1 small)));
+      after = spends t.intact h bytes key free i fits got.1 small _ put;
+      bytes = after_is t.intact h bytes key free i fits got.1 small _ put;
       lender = refl;
       same = (refl, refl);
     }

@@ -1,6 +1,6 @@
 use Rattle.std.proofs.Common.{◌+◌, ◌%◌, [], ◌∷◌, sym, ◌∙◌}
 use Rattle.tape.proofs.Writing.{line_is}
-use Rattle.tape.proofs.lines.line_of.Goals as goal
+use Rattle.tape.proofs.line.line_of.Goals as goal
 
 pub returns : goal.returns
 returns c =

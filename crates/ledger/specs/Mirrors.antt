@@ -1,0 +1,6 @@
+-- What two ledgers mean that are kept alike.
+use Rattle.ledger.specs.Standing.{Standing, both}
+use Rattle.ledger.specs.declared.mirror.Mirror.{Mirror}
+
+abbrev pub of_mirror : {A B : Type 0} → (A → Standing) → (B → Standing) → Mirror A B → Standing
+of_mirror f g m = both (f m.first) (g m.second)
