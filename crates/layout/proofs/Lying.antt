@@ -1,5 +1,5 @@
 -- Where sections and parts lie.
-use Rattle.std.proofs.Common.{◌≡◌, ℕ, zero, suc, ◌+◌, ◌-◌, ◌*◌, ◌^◌, ◌<◌, ◌≤◌, true, false, cond, eqb, leb, List, [], ◌∷◌, length, get_or, drop, set, Some, None, Option, sym, refl, ap, ◌∙◌, subst, ⊎_elim, mul_comm, add-mul, mul-le-mul_left, mul-one, mul-add, arith}
+use Rattle.std.proofs.Common.{◌≡◌, ℕ, zero, suc, ◌+◌, ◌-◌, ◌*◌, ◌^◌, ◌<◌, ◌≤◌, true, false, eqb, leb, List, [], ◌∷◌, length, get_or, set, Some, None, Option, sym, refl, ap, ◌∙◌, subst, ⊎_elim, mul_comm, add-mul, mul-le-mul_left, mul-one, mul-add, arith}
 use Rattle.std.specs.Option.{option_map}
 use Rattle.std.proofs.lemmas.List.{get_or-set_same, get_or-set_other, length-set}
 use Rattle.std.proofs.lemmas.Bool.{and_parts, cases_Bool, cases_eq, cases_lt, cond-true, cond-false, leb-true, ltb-true, eq-eqb}
@@ -58,18 +58,6 @@ find_owner p (x ∷ xs) g (suc k) there bare few key =
     cond-false (in_range x.first x.count key) (Some x) (find xs key) (same ∙ f) ∙ rest
     ∙ sym (ap (option_map (section_of p)) (cond-false (in_range (first_key p g) (key_count p g) key) (Some g) (owner_from p (g + 1) k key) f)))
     (cases_Bool (in_range (first_key p g) (key_count p g) key))
-
--- finding by looking at one after the other: what lies before place n has not the key
-pub find_at : (xs : List Section) (n key : ℕ) (d : Section) → n < length xs → find (drop n xs) key ≡ cond (in_range (get_or xs n d).first (get_or xs n d).count key) (Some (get_or xs n d)) (find (drop (suc n) xs) key)
-find_at [] n key d l = absurd (omega arith)
-find_at (x ∷ xs) zero key d l = refl
-find_at (x ∷ xs) (suc n) key d l = find_at xs n key d (omega arith)
-
-pub find_end : (xs : List Section) (n key : ℕ) → length xs ≤ n → find (drop n xs) key ≡ None
-find_end [] zero key l = refl
-find_end [] (suc n) key l = refl
-find_end (x ∷ xs) zero key l = absurd (omega arith)
-find_end (x ∷ xs) (suc n) key l = find_end xs n key (omega arith)
 
 -- ---- the sections of the first n groups, in front of a list, with no key behind them
 abbrev pub Front : Shape → ℕ → List Section → Type 0

@@ -51,17 +51,6 @@ impl Sections {
     pub fn find(&self, key: u32) -> Option<Section>
         ensures { result ≡ find self.now.all key }
     {
-        found(&self.all, key)
+        self.all.iter().find(|section| section.has(key)).copied()
     }
-}
-
-fn found(sections: &[Section], key: u32) -> Option<Section>
-    ensures { result ≡ find sections.now key }
-{
-    for section in sections {
-        if section.has(key) {
-            return Some(*section);
-        }
-    }
-    None
 }
