@@ -1,3 +1,4 @@
+pub mod Made
 pub mod Listed
 pub mod Checked
 pub mod Undone

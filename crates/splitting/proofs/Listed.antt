@@ -1,42 +1,20 @@
 -- Lists of sources and of members, looked at one after the other.
-use Rattle.std.proofs.Common.{◌≡◌, ℕ, zero, suc, ◌+◌, ◌-◌, ◌<◌, ◌≤◌, true, false, not, ◌&&◌, ◌||◌, List, [], ◌∷◌, map, length, get_or, take, drop, replicate, sym, refl, ap, ◌∙◌, ap₂, arith, length-drop}
+use Rattle.std.proofs.Common.{◌≡◌, ℕ, zero, suc, ◌+◌, ◌-◌, ◌<◌, ◌≤◌, Bool, true, ◌&&◌, ◌||◌, List, [], ◌∷◌, map, length, get_or, take, drop, replicate, sym, refl, ap, ◌∙◌, ap₂, arith}
 use lib.Bits.{xor_zero_r}
-use Rattle.std.proofs.lemmas.List.{take_all}
+use Rattle.std.specs.List.{list_any}
 use Rattle.rows.specs.Bytes.{xored}
 use Rattle.rows.proofs.Added.{length_xored}
 use Rattle.pads.specs.declared.label.Label.{Label}
 use Rattle.pads.specs.Source.{Source}
 use Rattle.splitting.specs.Sources.{no_source, clash, clashes_any, distinct, source_of, all_hold, padded}
 
-pub tail : {A : Type 0} (xs : List A) (n : ℕ) → take (length xs - n) (drop n xs) ≡ drop n xs
-tail xs n = take_all (length xs - n) (drop n xs) (omega (arith, length-drop n xs))
+-- tests of what a function makes of each element
+pub any_mapped : {A B : Type 0} (test : B → Bool) (f : A → B) (xs : List A) → list_any (λ x. test (f x)) xs ≡ list_any test (map f xs)
+any_mapped test f [] = refl
+any_mapped test f (x ∷ xs) = ap (λ b. test (f x) || b) (any_mapped test f xs)
 
 -- ---- sources, by a function from values to what they mean
 module _ {P : Type 0} (f : P → Source) where
-  pub any_at : (a : Source) (xs : List P) (n : ℕ) (d : P) → n < length xs → clashes_any a (map f (drop n xs)) ≡ (clash a (f (get_or xs n d)) || clashes_any a (map f (drop (n + 1) xs)))
-  any_at a [] n d l = absurd (omega arith)
-  any_at a (x ∷ xs) zero d l = refl
-  any_at a (x ∷ xs) (suc n) d l = let next : suc n + 1 ≡ suc (n + 1) = omega arith in any_at a xs n d (omega arith) ∙ ap (λ m. clash a (f (get_or xs n d)) || clashes_any a (map f (drop m (x ∷ xs)))) (sym next)
-
-  pub any_end : (a : Source) (xs : List P) (n : ℕ) → length xs ≤ n → clashes_any a (map f (drop n xs)) ≡ false
-  any_end a [] zero l = refl
-  any_end a [] (suc n) l = refl
-  any_end a (x ∷ xs) zero l = absurd (omega arith)
-  any_end a (x ∷ xs) (suc n) l = any_end a xs n (omega arith)
-
-  pub distinct_at : (xs : List P) (n : ℕ) (d : P) → n < length xs → distinct (map f (drop n xs)) ≡ (not (clashes_any (f (get_or xs n d)) (map f (drop (n + 1) xs))) && distinct (map f (drop (n + 1) xs)))
-  distinct_at [] n d l = absurd (omega arith)
-  distinct_at (x ∷ xs) zero d l = refl
-  distinct_at (x ∷ xs) (suc n) d l =
-      let next : suc n + 1 ≡ suc (n + 1) = omega arith in
-      distinct_at xs n d (omega arith) ∙ ap (λ m. not (clashes_any (f (get_or xs n d)) (map f (drop m (x ∷ xs)))) && distinct (map f (drop m (x ∷ xs)))) (sym next)
-
-  pub distinct_end : (xs : List P) (n : ℕ) → length xs ≤ n → distinct (map f (drop n xs)) ≡ true
-  distinct_end [] zero l = refl
-  distinct_end [] (suc n) l = refl
-  distinct_end (x ∷ xs) zero l = absurd (omega arith)
-  distinct_end (x ∷ xs) (suc n) l = distinct_end xs n (omega arith)
-
   pub source_at : (xs : List P) (t : ℕ) (d : P) → t - 1 < length xs → source_of (map f xs) t ≡ f (get_or xs (t - 1) d)
   source_at xs t d l = at xs (t - 1) l
     where

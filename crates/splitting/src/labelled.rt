@@ -8,6 +8,7 @@ ghost use Rattle.splitting.specs.Labelled.{label_at, component_label};
 use lms::scheme;
 use pads::Label;
 use sizes::{Height, Width};
+use std::array::from_fn;
 
 // A key's part in a group of some members.
 #[derive(Clone, Copy)]
@@ -16,13 +17,13 @@ pub(crate) struct KeyPart {
     pub(crate) width: Width,
     pub(crate) members: usize,
     pub(crate) key: u32,
+    ghost few: { members ≤ 8 },
 }
 
 impl KeyPart {
     // The label of row n.
     fn label(&self, n: usize) -> Label
-        requires small { n < 65536 }
-        requires few { self.now.members ≤ 8 }
+        requires { n < 65536 }
         ensures { result ≡ label_at self.now.members (levels self.now.height) (bits self.now.width) self.now.key n }
     {
         let path = 1 + self.members;
@@ -49,15 +50,10 @@ impl KeyPart {
 
     // The labels of eight rows from row `first` on.
     pub(crate) fn labels(&self, first: usize) -> [Label; 8]
-        requires small { first < 65528 }
-        requires few { self.now.members ≤ 8 }
+        requires { first < 65528 }
         ensures { (l : ℕ) → l < 8 →
             slice_index_or result l nothing ≡ label_at self.now.members (levels self.now.height) (bits self.now.width) self.now.key (first + l) }
     {
-        let mut labels = [Label::prefix(self.key); 8];
-        for l in 0..8 {
-            labels[l] = self.label(first + l);
-        }
-        labels
+        from_fn(|l| self.label(first + l))
     }
 }

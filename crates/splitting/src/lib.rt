@@ -10,4 +10,5 @@ mod splits;
 
 pub use checks::check;
 pub use refusal::Refusal;
+pub use sources::source_of;
 pub use splits::split;

@@ -7,6 +7,7 @@ ghost use Rattle.splitting.specs.Labelled.{label_at};
 ghost use Rattle.splitting.specs.Sources.{source_of, padded};
 
 use crate::labelled::KeyPart;
+use crate::sources::source_of;
 use pads::Pads;
 use plan::Group;
 use rows::{Row, add_row};
@@ -25,8 +26,7 @@ fn add_eight(out: &mut [u8], first: usize, pads: &[Row; 8])
 
 // Adds a source's pads to all rows of a key's part.
 fn add_pads<P: Pads>(source: &P, part: KeyPart, out: &mut [u8])
-    requires few { part.members ≤ 8 }
-    requires room { length out.old ≤ 32 * 8723 }
+    requires { length out.old ≤ 32 * 8723 }
     ensures { (m : ℕ) → 32 * (m + 1) ≤ length out.old →
         row_at m out.new ≡ xored (row_at m out.old) ((P.Pads.source source.now).pad (label_at part.members (levels part.height) (bits part.width) part.key m)) }
 {
@@ -39,21 +39,18 @@ fn add_pads<P: Pads>(source: &P, part: KeyPart, out: &mut [u8])
 
 // Adds a trustee's pads.
 fn add_pads_of<P: Pads>(sources: &[P], trustee: u8, part: KeyPart, out: &mut [u8])
-    requires few { part.members ≤ 8 }
-    requires room { length out.old ≤ 32 * 8723 }
+    requires { length out.old ≤ 32 * 8723 }
     ensures { (m : ℕ) → 32 * (m + 1) ≤ length out.old →
         row_at m out.new ≡ xored (row_at m out.old) ((source_of (map P.Pads.source sources.now) trustee).pad (label_at part.members (levels part.height) (bits part.width) part.key m)) }
 {
-    let index = trustee.saturating_sub(1) as usize;
-    if index < sources.len() {
-        add_pads(&sources[index], part, out);
+    if let Some(source) = source_of(sources, trustee) {
+        add_pads(source, part, out);
     }
 }
 
 // Adds the pads of all members of a group.
 pub(crate) fn add_all<P: Pads>(sources: &[P], group: &Group, part: KeyPart, out: &mut [u8])
-    requires few { part.members ≤ 8 }
-    requires room { length out.old ≤ 32 * 8723 }
+    requires { length out.old ≤ 32 * 8723 }
     ensures { (m : ℕ) → 32 * (m + 1) ≤ length out.old →
         row_at m out.new ≡ padded (map P.Pads.source sources.now) (members group.now.mask) (label_at part.members (levels part.height) (bits part.width) part.key m) (row_at m out.old) }
 {

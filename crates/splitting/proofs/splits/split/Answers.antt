@@ -21,16 +21,15 @@ returns-in_err-group g c =
     let e = refused (view c.args.plan.now) (map g.P.Pads.source c.args.sources.now) c.args.key c.args.rows.now _ c.in_err-group.ensures in
     record { answer = rw (q.1, q.2) (e, refl); laws = splitting }
 
+pub invariant_of-part : goal.invariant_of-part
+invariant_of-part g c = omega (arith, c.size.ensures, members_few c.in_ok-group.group.mask)
+
 pub add_all-requires : goal.add_all-requires
 add_all-requires g c =
     let plan = c.args.plan.now in
     let p = view plan in
-    let mask = c.in_ok-group.group.mask in
     let all = all_passed p (map g.P.Pads.source c.args.sources.now) c.args.key (length c.args.rows.now) c.in_ok-group.ensures.0 in
-    record {
-      few = omega (arith, c.size.ensures, members_few mask);
-      room = omega (arith, all.long, members_few (get_or p.masks all.g 0), components_few plan.width, levels_few plan.height);
-    }
+    omega (arith, all.long, members_few (get_or p.masks all.g 0), components_few plan.width, levels_few plan.height)
 
 pub returns : goal.returns
 returns g c =
