@@ -1,4 +1,5 @@
 pub mod Made
+pub mod Blocks
 pub mod Listed
 pub mod Checked
 pub mod Undone

@@ -6,7 +6,7 @@ use Rattle.rows.specs.Bytes.{xored}
 use Rattle.rows.proofs.Added.{length_xored}
 use Rattle.pads.specs.declared.label.Label.{Label}
 use Rattle.pads.specs.Source.{Source}
-use Rattle.splitting.specs.Sources.{no_source, clash, clashes_any, distinct, source_of, all_hold, padded}
+use Rattle.splitting.specs.Sources.{no_source, source_of, all_hold, padded}
 
 -- tests of what a function makes of each element
 pub any_mapped : {A B : Type 0} (test : B → Bool) (f : A → B) (xs : List A) → list_any (λ x. test (f x)) xs ≡ list_any test (map f xs)

@@ -19,8 +19,8 @@ fn add_eight(out: &mut [u8], first: usize, pads: &[Row; 8])
         row_at (first + l) out.new ≡ xored (row_at (first + l) out.old) (slice_index_or pads.now l []) }
     ensures old { (m : ℕ) → (m < first) ⊎ (first + 8 ≤ m) → row_at m out.new ≡ row_at m out.old }
 {
-    for l in 0..8 {
-        add_row(out, first + l, &pads[l]);
+    for (l, pad) in pads.iter().enumerate() {
+        add_row(out, first + l, pad);
     }
 }
 
@@ -30,10 +30,9 @@ fn add_pads<P: Pads>(source: &P, part: KeyPart, out: &mut [u8])
     ensures { (m : ℕ) → 32 * (m + 1) ≤ length out.old →
         row_at m out.new ≡ xored (row_at m out.old) ((P.Pads.source source.now).pad (label_at part.members (levels part.height) (bits part.width) part.key m)) }
 {
-    let count = out.len() / 32;
-    for b in 0..(count + 7) / 8 {
-        let pads = source.pads(&part.labels(8 * b));
-        add_eight(out, 8 * b, &pads);
+    for first in (0..out.len() / 32).step_by(8) {
+        let pads = source.pads(&part.labels(first));
+        add_eight(out, first, &pads);
     }
 }
 

@@ -1,4 +1,4 @@
-use Rattle.std.proofs.Common.{◌≡◌, ℕ, length, map}
+use Rattle.std.proofs.Common.{◌≡◌, length, map}
 use Rattle.splitting.specs.Sources.{distinct}
 use Rattle.splitting.proofs.sources.distinct.Given as goal
 

@@ -1,4 +1,4 @@
-use Rattle.std.proofs.Common.{◌≡◌, ℕ, ◌+◌, rules}
+use Rattle.std.proofs.Common.{◌≡◌, ◌+◌, rules}
 use Rattle.sizes.specs.Sizes.{levels, bits}
 use Rattle.pads.specs.Source.{nothing}
 use Rattle.splitting.specs.Labelled.{label_at}
