@@ -1,7 +1,8 @@
 -- Masks at the front of a longer list.
-use Rattle.std.proofs.Common.{◌≡◌, ℕ, ◌+◌, ◌-◌, ◌^◌, ◌<◌, ◌≤◌, true, List, ◌++◌, length, get_or, refl, ap, ◌∙◌, subst, ⊎_elim, arith}
+use Rattle.std.proofs.Common.{◌≡◌, ℕ, ◌+◌, ◌^◌, ◌<◌, ◌≤◌, Bool, true, false, ltb, List, ◌++◌, length, get_or, Decides, sym, refl, ap, ◌∙◌, arith}
+use Rattle.std.specs.List.{IsAllAdjacentAnswer}
 use Rattle.std.proofs.lemmas.List.{get_or_append_left, length-append}
-use Rattle.std.proofs.lemmas.Bool.{cases_eq, and_from, le-leb}
+use Rattle.std.proofs.lemmas.Bool.{and_from, le-leb, ltb-true, lt-ltb, false≢true}
 use Rattle.sizes.specs.declared.height.Height.{Height}
 use Rattle.sizes.specs.declared.height.Height.TheVariants.{Five, Ten}
 use Rattle.sizes.specs.declared.width.Width.{Width}
@@ -48,7 +49,7 @@ valid_shape n h w masks limit n1 n8 m1 m70 few eq in-limit rises = record {
   rising = rises;
 }
 
--- a mask that is not above the last one
-pub not_above : (masks : List ℕ) (limit i last : ℕ) → i < length masks → ((g : ℕ) → g + 1 ≡ i → last ≡ get_or masks g 0) → (i ≡ 0 → last ≡ 0) → get_or masks i 0 ≤ last → Within limit (length masks) masks × Rising (length masks) masks → ⊥
-not_above masks limit i last lt was none le (w, r) =
-    ⊎_elim (λ (e : i ≡ 0). omega (arith, none e, (w i lt).0)) (λ (ne : i ≡ 0 → ⊥). let s : (i - 1) + 1 ≡ i = omega arith in omega (arith, was (i - 1) s, subst (λ k. get_or masks (i - 1) 0 < get_or masks k 0) s (r (i - 1) (omega arith)))) (cases_eq i 0)
+-- what the test of each mask and the next says
+pub rising_is : (masks : List ℕ) (r : Bool) → IsAllAdjacentAnswer (λ x y b. b ≡ ltb x y) masks r → Decides r (Rising (length masks) masks)
+rising_is masks true h = ((λ _ g l. ltb-true _ _ (sym (h g 0 l))), λ _. refl)
+rising_is masks false h = ((λ e. absurd (false≢true e)), λ up. absurd (false≢true (h.2 0 ∙ lt-ltb _ _ (up h.0 h.1))))

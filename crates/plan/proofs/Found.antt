@@ -1,6 +1,9 @@
 -- What a group that was looked up is.
-use Rattle.std.proofs.Common.{◌≡◌, ℕ, ◌+◌, ◌^◌, ◌<◌, ◌≤◌, ltb, leb, length, get_or, take, Some, None, ap, ◌∙◌, ⊎_elim, arith}
-use Rattle.std.proofs.lemmas.List.{length-take-le, get_or-take}
+use Rattle.std.proofs.Common.{◌≡◌, ℕ, ◌+◌, ◌^◌, ◌<◌, ◌≤◌, ltb, leb, [], ◌∷◌, length, get_or, take, drop, Some, None, sym, ap, ◌∙◌, ⊎_elim, zero-add, arith}
+use Rattle.std.specs.List.{range_with_len}
+use Rattle.std.proofs.lemmas.List.{length-take-le, get_or-take, at_drop_more, drop_all, length-map}
+use Rattle.std.proofs.Math.ListN.{get_or-map}
+use Rattle.std.proofs.lemmas.List.FromFn.{length-range_with_len, get_or-range_with_len}
 use Rattle.std.proofs.lemmas.Bool.{cases_lt, lt-ltb, le-ltb, cond-true, cond-false, and_parts, leb-true}
 use Rattle.sizes.specs.declared.height.Height.{Height}
 use Rattle.sizes.specs.declared.height.Height.TheVariants.{Five, Ten}
@@ -11,7 +14,7 @@ use Rattle.plan.specs.Shape.{Shape, Valid, is_groups}
 use Rattle.plan.specs.Laws.{Ranges}
 use Rattle.plan.specs.View.{view}
 use Rattle.plan.specs.Keys.{first_key, key_count}
-use Rattle.plan.specs.Groups.{group_of, group_at}
+use Rattle.plan.specs.Groups.{group_of, group_at, groups}
 use Rattle.plan.proofs.Copied.{height_is, width_is}
 use Rattle.plan.proofs.Shares.{some, later, dealt, ranges}
 
@@ -64,3 +67,14 @@ plan_ranges p =
 pub keys_most : (h : Height) → 2 ^ levels h ≤ 1024
 keys_most Five = omega arith
 keys_most Ten = omega arith
+
+-- the first of the groups from one on
+pub first_group : (p : Shape) (n : ℕ) (g : Group) → Some g ≡ group_at p n → drop n (groups p) ≡ g ∷ drop (n + 1) (groups p)
+first_group p n g e =
+    let there = group_found p n g e in
+    let ns = range_with_len 0 (length p.masks) in
+    at_drop_more (λ gs. gs) (groups p) n (group_of p 0) (omega (arith, length-map ns (group_of p), length-range_with_len 0 (length p.masks), there.0))
+    ∙ ap (λ x. x ∷ drop (n + 1) (groups p)) (get_or-map (group_of p) ns n 0 ∙ ap (group_of p) (get_or-range_with_len 0 (length p.masks) n 0 there.0 ∙ zero-add n) ∙ sym there.1)
+
+pub no_group : (p : Shape) (n : ℕ) → None ≡ group_at p n → drop n (groups p) ≡ []
+no_group p n e = drop_all n (groups p) (omega (arith, group_missing p n e, length-map (range_with_len 0 (length p.masks)) (group_of p), length-range_with_len 0 (length p.masks)))

@@ -1,11 +1,12 @@
 -- The members of a mask, their number and their places.
-use Rattle.std.proofs.Common.{◌≡◌, ℕ, zero, suc, ◌+◌, ◌-◌, ◌*◌, ◌/◌, ◌%◌, ◌^◌, ◌<◌, ◌≤◌, Bool, true, false, cond, ◌&&◌, eqb, leb, ◌⊎◌, List, [], ◌∷◌, length, get_or, Some, None, Option, sym, refl, ap, ◌∙◌, inl, inr, ⊎_elim, arith}
+use Rattle.std.proofs.Common.{◌≡◌, ℕ, zero, suc, ◌+◌, ◌-◌, ◌*◌, ◌/◌, ◌%◌, ◌^◌, ◌<◌, ◌≤◌, Bool, true, false, cond, ◌&&◌, eqb, leb, ◌⊎◌, List, [], ◌∷◌, length, get_or, Some, None, Option, MatchOption, slice_get, sym, refl, ap, ◌∙◌, inl, inr, ⊎_elim, arith}
 use lib.Bits.{bit_and}
-use lib.Count.{ones}
+use lib.Count.{ones, count_trailing_zeros}
 use Rattle.std.specs.List.{range_with_len}
 use Rattle.std.specs.Option.{option_map}
 use Rattle.std.proofs.lemmas.Bool.{and_parts, and_left, and_right, cases_Bool, cases_lt, cond_both, cond-true, cond-false, eqb-true, eq-eqb, ne_eqb, lt-leb, le-leb, leb-true, false≢true}
 use Rattle.std.proofs.lemmas.Nat.{and_mask, one_shl}
+use Rattle.std.proofs.lemmas.Option.{slice_get-get_or, slice_get_within, get_or_from_slice_get}
 use Rattle.plan.specs.Every.{every}
 use Rattle.plan.specs.Members.{members, members_from, has, place}
 use Rattle.plan.specs.Laws.{Seats}
@@ -150,3 +151,58 @@ seats mask small = record {
   stands = λ i l. stands (members mask) (climbing_members 8 1 mask) i l;
   found = λ t h. (ones (mask % 2 ^ (t - 1)), place_is mask t small ∙ cond-true (has mask t) _ None h);
 }
+
+-- ---- the members one by one, lowest first
+alike : List ℕ → List ℕ → Bool
+alike [] [] = true
+alike [] (y ∷ ys) = false
+alike (x ∷ xs) [] = false
+alike (x ∷ xs) (y ∷ ys) = eqb x y && alike xs ys
+
+alike_is : (xs ys : List ℕ) → alike xs ys ≡ true → xs ≡ ys
+unfolding alike
+alike_is [] [] h = refl
+alike_is [] (y ∷ ys) h = absurd (false≢true h)
+alike_is (x ∷ xs) [] h = absurd (false≢true h)
+alike_is (x ∷ xs) (y ∷ ys) h =
+    let p = and_parts (eqb x y) (alike xs ys) h in
+    ap (λ z. z ∷ xs) (eqb-true x y p.0) ∙ ap (λ zs. y ∷ zs) (alike_is xs ys p.1)
+
+peels : ℕ → Bool
+peels mask = alike (members mask) ((count_trailing_zeros 8 mask + 1) ∷ members (bit_and mask (mask - 1)))
+
+all_peel : every peels (range_with_len 1 255) ≡ true
+unfolding alike peels members count_trailing_zeros
+all_peel = refl
+
+pub peeled : (mask : ℕ) → 1 ≤ mask → mask < 256 → members mask ≡ (count_trailing_zeros 8 mask + 1) ∷ members (bit_and mask (mask - 1))
+unfolding peels
+peeled mask low small = alike_is _ _ (every_at peels 1 255 all_peel mask low (omega arith))
+
+pub nobody : members 0 ≡ []
+unfolding members
+nobody = refl
+
+-- the member at a place
+below : (k a mask i : ℕ) → i < length (members_from k a mask) → get_or (members_from k a mask) i 0 < a + k
+below zero a mask i l = absurd (omega arith)
+below (suc k) a mask i l =
+    let later = below k (a + 1) (mask / 2) in
+    let P : List ℕ → Type 0 = λ xs. i < length xs → get_or xs i 0 < a + suc k in
+    cond_both (eqb (mask % 2) 1) (a ∷ members_from k (a + 1) (mask / 2)) (members_from k (a + 1) (mask / 2)) P
+    (λ e. first (members_from k (a + 1) (mask / 2)) later i)
+    (λ e m. omega (arith, later i m))
+    l
+  where
+    first : (xs : List ℕ) → ((j : ℕ) → j < length xs → get_or xs j 0 < (a + 1) + k) → (j : ℕ) → j < length (a ∷ xs) → get_or (a ∷ xs) j 0 < a + suc k
+    first xs h zero m = omega arith
+    first xs h (suc j) m = omega (arith, h j (omega arith))
+
+pub member_at : (mask i : ℕ) (r : Option ℕ) → option_map (λ t. t) r ≡ slice_get (members mask) i
+    → MatchOption r (length (members mask) ≤ i) (λ t. (i < length (members mask)) × (t ≡ get_or (members mask) i 0) × (1 ≤ t) × (t ≤ 8))
+unfolding members
+member_at mask i None e = ⊎_elim (λ (l : i < length (members mask)). let z : None ≡ Some (get_or (members mask) i 0) = e ∙ slice_get-get_or (members mask) i 0 l in let y : ◌≡◌ {A = ℕ} 0 1 = cc in absurd (omega arith)) (λ (l : length (members mask) ≤ i). l) (cases_lt i (length (members mask)))
+member_at mask i (Some t) e =
+    let l = slice_get_within (members mask) i t (sym e) in
+    let is = get_or_from_slice_get (members mask) i t 0 (sym e) in
+    (l, sym is, omega (arith, is, above 8 1 mask i l), omega (arith, is, below 8 1 mask i l))

@@ -1,9 +1,12 @@
 -- The key ranges of a plan.
-use Rattle.std.proofs.Common.{◌≡◌, ℕ, zero, suc, ◌+◌, ◌-◌, ◌*◌, ◌/◌, ◌%◌, ◌^◌, ◌<◌, ◌≤◌, Bool, true, false, ltb, leb, ◌⊎◌, List, length, Some, None, Option, sym, refl, ap, ◌∙◌, subst, inl, inr, ⊎_elim, mul_comm, mul-le-mul_left, mul-zero, mul-one, mul-add, arith}
+use Rattle.std.proofs.Common.{◌≡◌, ℕ, zero, suc, ◌+◌, ◌*◌, ◌/◌, ◌%◌, ◌^◌, ◌<◌, ◌≤◌, Bool, true, false, ltb, leb, ◌⊎◌, List, map, length, Some, None, Option, sym, refl, ap, ◌∙◌, subst, inl, inr, ⊎_elim, mul_comm, mul-le-mul_left, mul-zero, mul-one, mul-add, arith}
 use Rattle.std.proofs.lemmas.Nat.{le-div, div-add-mod', div_below, mod_below}
 use Rattle.std.proofs.lemmas.Bool.{and_parts, and_from, cases_Bool, cases_order, cases_lt, cond-true, cond-false, leb-true, le-leb, ltb-true, lt-ltb}
 use Rattle.plan.specs.Shape.{Shape}
 use Rattle.plan.specs.Keys.{share, first_key, key_count, Owns, in_range, owner_from, owner}
+use Rattle.plan.specs.Groups.{group_of, owns_key}
+use Rattle.std.specs.List.{find, range_with_len}
+use Rattle.std.specs.Option.{option_map}
 use Rattle.plan.specs.Laws.{Ranges, TenGroups, ten_groups}
 
 pub range_from : (first count key : ℕ) → first ≤ key → key < first + count → in_range first count key ≡ true
@@ -113,23 +116,6 @@ module _ (p : Shape) where
       unowned = unowned;
     }
 
--- one step of the search for an owner
-pub owner_here : (p : Shape) (g k key : ℕ) → 1 ≤ k → in_range (first_key p g) (key_count p g) key ≡ true → owner_from p g k key ≡ Some g
-unfolding owner_from
-owner_here p g zero key h e = absurd (omega arith)
-owner_here p g (suc k) key h e = cond-true (in_range (first_key p g) (key_count p g) key) (Some g) (owner_from p (g + 1) k key) e
-
-pub owner_later : (p : Shape) (g k key : ℕ) → 1 ≤ k → in_range (first_key p g) (key_count p g) key ≡ false → owner_from p g k key ≡ owner_from p (g + 1) (k - 1) key
-unfolding owner_from
-owner_later p g zero key h e = absurd (omega arith)
-owner_later p g (suc k) key h e =
-    let less : suc k - 1 ≡ k = omega arith in
-    cond-false (in_range (first_key p g) (key_count p g) key) (Some g) (owner_from p (g + 1) k key) e ∙ ap (λ j. owner_from p (g + 1) j key) (sym less)
-
-pub owner_past : (p : Shape) (g k key : ℕ) → k ≡ 0 → owner_from p g k key ≡ None
-unfolding owner_from
-owner_past p g k key e = ap (λ j. owner_from p g j key) e
-
 -- with ten groups
 ten : (masks : List ℕ) → length masks ≡ 10 → share (ten_groups masks) ≡ 102
 ten masks e = ap (λ k. 1024 / k) e
@@ -140,3 +126,15 @@ ten_hold = record {
   last = λ masks e. let s = ap (λ k. k * 9) (ten masks e) in owns_owner (ten_groups masks) 9 1019 (omega arith, omega (arith, s), omega (arith, s, ten masks e));
   past = λ masks e. let s = ap (λ k. k * 10) (ten masks e) in let turn = ap (λ k. share (ten_groups masks) * k) e in unowned (ten_groups masks) 1020 (omega (arith, s, turn));
 }
+
+-- the first group that has the key is the owner
+pub found_owner : (p : Shape) (g k key : ℕ) → find (λ x. owns_key x key) (map (group_of p) (range_with_len g k)) ≡ option_map (group_of p) (owner_from p g k key)
+unfolding owner_from
+found_owner p g zero key = refl
+found_owner p g (suc k) key =
+    let test = in_range (first_key p g) (key_count p g) key in
+    let rest = found_owner p (g + 1) k key in
+    ⊎_elim
+    (λ (e : test ≡ true). cond-true test _ _ e ∙ sym (ap (option_map (group_of p)) (cond-true test (Some g) (owner_from p (g + 1) k key) e)))
+    (λ (e : test ≡ false). cond-false test _ _ e ∙ rest ∙ sym (ap (option_map (group_of p)) (cond-false test (Some g) (owner_from p (g + 1) k key) e)))
+    (cases_Bool test)

@@ -1,5 +1,6 @@
 -- A group of a plan as a value.
-use Rattle.std.specs.Prelude.{ℕ, Bool, cond, length, Some, None, Option, nat_lt, slice_index}
+use Rattle.std.specs.Prelude.{ℕ, Bool, cond, List, map, length, Some, None, Option, nat_lt, slice_index}
+use Rattle.std.specs.List.{range_with_len}
 use Rattle.std.specs.Option.{option_map}
 use Rattle.plan.specs.declared.group.Group.{Group}
 use Rattle.plan.specs.Shape.{Shape}
@@ -19,3 +20,7 @@ owning p key = option_map (group_of p) (owner p key)
 
 abbrev pub owns_key : Group → ℕ → Bool
 owns_key g key = in_range g.first g.count key
+
+-- all groups, in order
+abbrev pub groups : Shape → List Group
+groups p = map (group_of p) (range_with_len 0 (length p.masks))

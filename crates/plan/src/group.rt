@@ -1,8 +1,10 @@
 // A group of a plan: its members, and the range of keys that it owns.
-ghost use Rattle.std.specs.Prelude.{◌≡◌, ◌<◌, ◌≤◌, length, Some, Decides, MatchOption, slice_index};
+ghost use Rattle.std.specs.Prelude.{◌≡◌, ◌<◌, ◌≤◌, length, MatchOption, slice_index};
 ghost use Rattle.plan.specs.Members.{members, has, place};
 ghost use Rattle.plan.specs.Groups.{owns_key};
 ghost use Rattle.plan.specs.Laws.{Seats};
+
+use crate::members::Members;
 
 // Bit t - 1 of the mask stands for trustee t. The keys run from `first` on and are `count` many.
 #[derive(Clone, Copy, PartialEq, Eq, Debug)]
@@ -32,7 +34,7 @@ impl Group {
     pub fn has(&self, trustee: u8) -> bool
         ensures { result ≡ has self.now.mask trustee }
     {
-        1 <= trustee && trustee <= 8 && (self.mask >> (trustee - 1)) & 1 == 1
+        (1..=8).contains(&trustee) && (self.mask >> (trustee - 1)) & 1 == 1
     }
 
     // A member's place among the members, by rising trustee number, from 0. Members rise with their places, each has one, and who has one
@@ -49,26 +51,18 @@ impl Group {
         Some(lower.count_ones() as usize)
     }
 
+    // The members, by rising trustee number.
+    pub fn members(&self) -> Members
+        ensures { result ≡ members self.now.mask }
+    {
+        Members { left: self.mask }
+    }
+
     // The member at a place, from 0, where the group has so many.
     pub fn member(&self, position: usize) -> Option<u8>
         ensures { MatchOption result (length (members self.now.mask) ≤ position)
             (λ t. (position < length (members self.now.mask)) × (t ≡ slice_index (members self.now.mask) position) × (1 ≤ t) × (t ≤ 8)) }
     {
-        for trustee in 1..9 {
-            if self.stands_at(trustee, position) {
-                return Some(trustee);
-            }
-        }
-        None
-    }
-
-    fn stands_at(&self, trustee: u8, position: usize) -> bool
-        ensures answer { Decides result (place trustee (members self.now.mask) ≡ Some position) }
-        ensures seats { Seats self.now.mask }
-    {
-        match self.position(trustee) {
-            Some(place) => place == position,
-            None => false,
-        }
+        self.members().nth(position)
     }
 }

@@ -2,10 +2,14 @@
 #![tactic(auto)]
 
 mod group;
+mod groups;
 mod lookup;
 mod making;
+mod members;
 mod parts;
 mod plans;
 
 pub use group::Group;
+pub use groups::Groups;
+pub use members::Members;
 pub use plans::Plan;

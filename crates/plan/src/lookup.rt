@@ -2,12 +2,13 @@
 ghost use Rattle.std.specs.Prelude.{◌≡◌, ◌*◌, ◌^◌, ◌<◌, ◌≤◌};
 ghost use Rattle.sizes.specs.Sizes.{levels};
 ghost use Rattle.plan.specs.Keys.{share, undealt};
-ghost use Rattle.plan.specs.Groups.{group_at, group_of, owning};
+ghost use Rattle.plan.specs.Groups.{group_at, group_of, groups, owning};
 ghost use Rattle.plan.specs.Laws.{Ranges, TenGroups};
 ghost use Rattle.plan.specs.Shape.{Valid};
 ghost use Rattle.plan.specs.View.{view};
 
 use crate::group::Group;
+use crate::groups::Groups;
 use crate::plans::Plan;
 
 impl Plan {
@@ -21,6 +22,16 @@ impl Plan {
         Some(self.described(number))
     }
 
+    // All groups, by rising number.
+    pub fn iter(&self) -> Groups<'_>
+        ensures { result ≡ groups (view self.now) }
+    {
+        Groups {
+            plan: self,
+            number: 0,
+        }
+    }
+
     // The group that owns a key, or none for a key that is never dealt. Every plan keeps the rules, its groups' key ranges are disjoint,
     // rising and of equal size, and with the keys never dealt they are all keys; the owner is the group whose range has the key.
     pub fn owner(&self, key: u32) -> Option<Group>
@@ -29,13 +40,7 @@ impl Plan {
         ensures ranges { Ranges (view self.now) }
         ensures example { TenGroups }
     {
-        for number in 0..self.groups {
-            let group = self.described(number);
-            if group.owns(key) {
-                return Some(group);
-            }
-        }
-        None
+        self.iter().find(|group| group.owns(key))
     }
 
     // How many keys of the tree are never dealt.

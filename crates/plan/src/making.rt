@@ -13,10 +13,10 @@ impl Plan {
         ensures { MatchOption result (Valid (shaped trustees height width masks.now) → ⊥) (λ p. Valid (shaped trustees height width masks.now) × (view p ≡ shaped trustees height width masks.now)) }
     {
         let groups = masks.len();
-        if trustees < 1 || trustees > 8 || groups < 1 || groups > 70 {
+        if !(1..=8).contains(&trustees) || !(1..=70).contains(&groups) {
             return None;
         }
-        if groups > height.keys() as usize || !rise(masks, 1 << trustees) {
+        if groups > height.keys() as usize || !within(masks, 1 << trustees) || !rising(masks) {
             return None;
         }
         let mut all = [0u8; 70];
@@ -31,19 +31,18 @@ impl Plan {
     }
 }
 
-// Whether masks are at least 1, below a limit, and rise strictly.
-fn rise(masks: &[u8], limit: u16) -> bool
-    ensures { Decides result (Within limit (length masks.now) masks.now × Rising (length masks.now) masks.now) }
+// Whether masks are at least 1 and below a limit.
+fn within(masks: &[u8], limit: u16) -> bool
+    ensures { Decides result (Within limit (length masks.now) masks.now) }
 {
-    let mut last = 0;
-    for mask in masks {
-        if *mask <= last {
-            return false;
-        }
-        if *mask as u16 >= limit {
-            return false;
-        }
-        last = *mask;
-    }
-    true
+    masks
+        .iter()
+        .all(|mask| 1 <= *mask && (*mask as u16) < limit)
+}
+
+// Whether masks rise strictly.
+fn rising(masks: &[u8]) -> bool
+    ensures { Decides result (Rising (length masks.now) masks.now) }
+{
+    masks.is_sorted_by(|a, b| a < b)
 }

@@ -5,7 +5,7 @@ ghost use Rattle.plan.specs.Shape.{is_trustees, is_groups, Within, Rising};
 
 use sizes::{Height, Width};
 
-// The masks of the groups stand at the front of `masks`.
+// The masks of the groups stand at the front of `masks`: an array with a number, since a plan is copied and has no heap.
 #[derive(Clone, Copy)]
 pub struct Plan {
     pub(crate) trustees: u8,

@@ -4,5 +4,5 @@
 mod height;
 mod width;
 
-pub use height::Height;
-pub use width::Width;
+pub use height::{Height, UnknownHeight};
+pub use width::{UnknownWidth, Width};
