@@ -1,30 +1,21 @@
 // The labels of the rows of a key's part.
-ghost use Rattle.std.specs.Prelude.{◌≡◌, ℕ, ◌+◌, ◌/◌, ◌%◌, ◌<◌, ◌≤◌, slice_index_or};
-ghost use Rattle.sizes.specs.Sizes.{levels, bits};
+ghost use Rattle.std.specs.Prelude.{◌≡◌, ℕ, ◌+◌, ◌/◌, ◌%◌, ◌<◌, slice_index_or};
+ghost use Rattle.sizes.specs.Sizes.{bits};
 ghost use Rattle.pads.specs.Source.{nothing};
 ghost use Rattle.lms.specs.Scheme.{positions};
-ghost use Rattle.splitting.specs.Labelled.{label_at, component_label};
+ghost use Rattle.splitting.specs.Labelled.{component_label};
+ghost use Rattle.splitting.specs.KeyParts.{label_in};
 
+use crate::key_part::KeyPart;
 use lms::scheme;
 use pads::Label;
-use sizes::{Height, Width};
 use std::array::from_fn;
-
-// A key's part in a group of some members.
-#[derive(Clone, Copy)]
-pub(crate) struct KeyPart {
-    pub(crate) height: Height,
-    pub(crate) width: Width,
-    pub(crate) members: usize,
-    pub(crate) key: u32,
-    ghost few: { members ≤ 8 },
-}
 
 impl KeyPart {
     // The label of row n.
     fn label(&self, n: usize) -> Label
         requires { n < 65536 }
-        ensures { result ≡ label_at self.now.members (levels self.now.height) (bits self.now.width) self.now.key n }
+        ensures { result ≡ label_in self.now n }
     {
         let path = 1 + self.members;
         let components = path + self.height.levels();
@@ -51,8 +42,7 @@ impl KeyPart {
     // The labels of eight rows from row `first` on.
     pub(crate) fn labels(&self, first: usize) -> [Label; 8]
         requires { first < 65528 }
-        ensures { (l : ℕ) → l < 8 →
-            slice_index_or result l nothing ≡ label_at self.now.members (levels self.now.height) (bits self.now.width) self.now.key (first + l) }
+        ensures { (l : ℕ) → l < 8 → slice_index_or result l nothing ≡ label_in self.now (first + l) }
     {
         from_fn(|l| self.label(first + l))
     }

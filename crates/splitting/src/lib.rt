@@ -2,6 +2,7 @@
 #![tactic(auto)]
 
 mod checks;
+mod key_part;
 mod labelled;
 mod masking;
 mod refusal;

@@ -1,12 +1,11 @@
 // Pads added to the rows of a part.
 ghost use Rattle.std.specs.Prelude.{◌≡◌, ℕ, ◌+◌, ◌*◌, ◌<◌, ◌≤◌, ◌⊎◌, [], map, length, slice_index_or};
 ghost use Rattle.rows.specs.Bytes.{row_at, xored};
-ghost use Rattle.sizes.specs.Sizes.{levels, bits};
 ghost use Rattle.plan.specs.Members.{members};
-ghost use Rattle.splitting.specs.Labelled.{label_at};
+ghost use Rattle.splitting.specs.KeyParts.{label_in};
 ghost use Rattle.splitting.specs.Sources.{source_of, padded};
 
-use crate::labelled::KeyPart;
+use crate::key_part::KeyPart;
 use crate::sources::source_of;
 use pads::Pads;
 use plan::Group;
@@ -28,7 +27,7 @@ fn add_eight(out: &mut [u8], first: usize, pads: &[Row; 8])
 fn add_pads<P: Pads>(source: &P, part: KeyPart, out: &mut [u8])
     requires { length out.old ≤ 32 * 8723 }
     ensures { (m : ℕ) → 32 * (m + 1) ≤ length out.old →
-        row_at m out.new ≡ xored (row_at m out.old) ((P.Pads.source source.now).pad (label_at part.members (levels part.height) (bits part.width) part.key m)) }
+        row_at m out.new ≡ xored (row_at m out.old) ((P.Pads.source source.now).pad (label_in part m)) }
 {
     for first in (0..out.len() / 32).step_by(8) {
         let pads = source.pads(&part.labels(first));
@@ -40,7 +39,7 @@ fn add_pads<P: Pads>(source: &P, part: KeyPart, out: &mut [u8])
 fn add_pads_of<P: Pads>(sources: &[P], trustee: u8, part: KeyPart, out: &mut [u8])
     requires { length out.old ≤ 32 * 8723 }
     ensures { (m : ℕ) → 32 * (m + 1) ≤ length out.old →
-        row_at m out.new ≡ xored (row_at m out.old) ((source_of (map P.Pads.source sources.now) trustee).pad (label_at part.members (levels part.height) (bits part.width) part.key m)) }
+        row_at m out.new ≡ xored (row_at m out.old) ((source_of (map P.Pads.source sources.now) trustee).pad (label_in part m)) }
 {
     if let Some(source) = source_of(sources, trustee) {
         add_pads(source, part, out);
@@ -51,12 +50,9 @@ fn add_pads_of<P: Pads>(sources: &[P], trustee: u8, part: KeyPart, out: &mut [u8
 pub(crate) fn add_all<P: Pads>(sources: &[P], group: &Group, part: KeyPart, out: &mut [u8])
     requires { length out.old ≤ 32 * 8723 }
     ensures { (m : ℕ) → 32 * (m + 1) ≤ length out.old →
-        row_at m out.new ≡ padded (map P.Pads.source sources.now) (members group.now.mask) (label_at part.members (levels part.height) (bits part.width) part.key m) (row_at m out.old) }
+        row_at m out.new ≡ padded (map P.Pads.source sources.now) (members group.now.mask) (label_in part m) (row_at m out.old) }
 {
-    for i in 0..group.size() {
-        let Some(trustee) = group.member(i) else {
-            unreachable()
-        };
+    for trustee in group.members() {
         add_pads_of(sources, trustee, part, out);
     }
 }

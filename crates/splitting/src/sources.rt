@@ -60,13 +60,5 @@ fn holds<P: Pads>(sources: &[P], trustee: u8, key: u32) -> bool
 pub(crate) fn all_hold<P: Pads>(sources: &[P], group: &Group, key: u32) -> bool
     ensures { result ≡ all_hold (map P.Pads.source sources.now) (members group.now.mask) key }
 {
-    for i in 0..group.size() {
-        let Some(trustee) = group.member(i) else {
-            unreachable()
-        };
-        if !holds(sources, trustee, key) {
-            return false;
-        }
-    }
-    true
+    group.members().all(|trustee| holds(sources, trustee, key))
 }

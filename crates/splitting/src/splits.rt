@@ -5,7 +5,7 @@ ghost use Rattle.splitting.specs.Split.{split};
 ghost use Rattle.splitting.specs.Laws.{Splitting};
 
 use crate::checks::check;
-use crate::labelled::KeyPart;
+use crate::key_part::KeyPart;
 use crate::masking::add_all;
 use crate::refusal::Refusal;
 use pads::Pads;

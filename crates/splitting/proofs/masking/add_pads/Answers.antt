@@ -1,6 +1,5 @@
 use Rattle.std.proofs.Common.{◌+◌, [], get_or, ap, ◌∙◌, arith}
-use Rattle.sizes.specs.Sizes.{levels, bits}
-use Rattle.splitting.specs.Labelled.{label_at}
+use Rattle.splitting.specs.KeyParts.{label_in}
 use Rattle.splitting.proofs.Blocks.{Added, none_added, eight_added}
 use Rattle.splitting.proofs.masking.add_pads.Goals as goal
 
@@ -20,7 +19,7 @@ pub returns-2 : goal.returns-2
 returns-2 g c = λ m room.
     let pad = (g.P.Pads.source c.args.source.now).pad in
     let part = c.args.part in
-    let all : Added (λ m. pad (label_at part.members (levels part.height) (bits part.width) part.key m)) c.args.out.now c.add_eight.new.out (c.loop-first.first + 8) =
+    let all : Added (λ m. pad (label_in part m)) c.args.out.now c.add_eight.new.out (c.loop-first.first + 8) =
     eight_added _ c.args.out.now c.loop-first.out c.add_eight.new.out c.loop-first.first (λ k. get_or c.pads-pads.result k []) c.loop-first.auto.out c.loop-first.invariant
     (λ k l. c.pads-pads.ensures k l ∙ ap pad (c.labels.ensures k l)) c.add_eight.ensures.new c.add_eight.ensures.old in
     all.done m (omega arith) room
