@@ -4,3 +4,4 @@ pub mod Listed
 pub mod Checked
 pub mod Undone
 pub mod Placed
+pub mod Granted

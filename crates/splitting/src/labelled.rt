@@ -1,17 +1,32 @@
 // The labels of the rows of a key's part.
-ghost use Rattle.std.specs.Prelude.{◌≡◌, ℕ, ◌+◌, ◌/◌, ◌%◌, ◌<◌, slice_index_or};
+ghost use Rattle.std.specs.Prelude.{◌≡◌, ℕ, ◌+◌, ◌/◌, ◌%◌, ◌<◌, length, slice_index_or};
 ghost use Rattle.sizes.specs.Sizes.{bits};
+ghost use Rattle.plan.specs.Members.{members};
+ghost use Rattle.plan.specs.View.{view};
 ghost use Rattle.pads.specs.Source.{nothing};
 ghost use Rattle.lms.specs.Scheme.{positions};
-ghost use Rattle.splitting.specs.Labelled.{component_label};
+ghost use Rattle.splitting.specs.Labelled.{label_at, component_label};
 ghost use Rattle.splitting.specs.KeyParts.{label_in};
 
 use crate::key_part::KeyPart;
 use lms::scheme;
 use pads::Label;
+use plan::{Group, Plan};
 use std::array::from_fn;
 
 impl KeyPart {
+    // The part of a key of a plan's group.
+    pub(crate) fn of(plan: &Plan, group: &Group, key: u32) -> KeyPart
+        ensures { (n : ℕ) → label_in result n ≡ label_at (length (members group.now.mask)) (view plan.now).height (view plan.now).width key n }
+    {
+        KeyPart {
+            height: plan.height(),
+            width: plan.width(),
+            members: group.size(),
+            key,
+        }
+    }
+
     // The label of row n.
     fn label(&self, n: usize) -> Label
         requires { n < 65536 }

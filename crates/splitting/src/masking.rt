@@ -23,7 +23,7 @@ fn add_eight(out: &mut [u8], first: usize, pads: &[Row; 8])
     }
 }
 
-// Adds a source's pads to all rows of a key's part.
+// Adds a source's pads to all rows of a key's part. A part has at most 8,723 rows, as layout says, so a row's number fits in a label.
 fn add_pads<P: Pads>(source: &P, part: KeyPart, out: &mut [u8])
     requires { length out.old ≤ 32 * 8723 }
     ensures { (m : ℕ) → 32 * (m + 1) ≤ length out.old →

@@ -20,12 +20,6 @@ pub fn split<P: Pads>(plan: &Plan, sources: &[P], key: u32, rows: &mut [u8]) -> 
     ensures laws { Splitting }
 {
     let group = check(plan, sources, key, rows.len())?;
-    let part = KeyPart {
-        height: plan.height(),
-        width: plan.width(),
-        members: group.size(),
-        key,
-    };
-    add_all(sources, &group, part, rows);
+    add_all(sources, &group, KeyPart::of(plan, &group, key), rows);
     Ok(())
 }
