@@ -8,6 +8,7 @@ use Rattle.sizes.specs.declared.width.Width.TheVariants.{One, Two, Four, Eight}
 use Rattle.sizes.specs.Sizes.{levels, bits}
 use Rattle.plan.specs.Members.{members, members_from}
 use Rattle.lms.specs.Scheme.{components, positions}
+use Rattle.layout.specs.Part.{part_rows}
 
 members_from_few : (k t mask : ℕ) → length (members_from k t mask) ≤ k
 members_from_few zero t mask = omega arith
@@ -30,3 +31,6 @@ components_few Eight = omega arith
 pub levels_few : (h : Height) → levels h ≤ 10
 levels_few Five = omega arith
 levels_few Ten = omega arith
+
+pub part_few : (h : Height) (w : Width) (mask : ℕ) → part_rows (levels h) (bits w) (length (members mask)) ≤ 8723
+part_few h w mask = omega (arith, members_few mask, levels_few h, components_few w)

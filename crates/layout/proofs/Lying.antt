@@ -1,22 +1,29 @@
 -- Where sections and parts lie.
-use Rattle.std.proofs.Common.{◌≡◌, ℕ, zero, suc, ◌+◌, ◌-◌, ◌*◌, ◌^◌, ◌<◌, ◌≤◌, true, false, cond, eqb, leb, List, [], ◌∷◌, length, get_or, drop, set, Some, None, Option, sym, refl, ap, ◌∙◌, subst, ⊎_elim, mul_comm, add-mul, mul-le-mul_left, mul-one, mul-add, arith}
+use Rattle.std.proofs.Common.{◌≡◌, ℕ, zero, suc, ◌+◌, ◌-◌, ◌*◌, ◌<◌, ◌≤◌, true, false, eqb, leb, List, [], ◌∷◌, map, length, get_or, set, replicate, Some, None, Option, sym, refl, ap, ◌∙◌, subst, ⊎_elim, mul_comm, add-mul, mul-le-mul_left, mul-one, mul-add, arith}
 use Rattle.std.specs.Option.{option_map}
-use Rattle.std.proofs.lemmas.List.{get_or-set_same, get_or-set_other, length-set}
+use Rattle.std.proofs.lemmas.List.{get_or-set_same, get_or-set_other, length-set, length-replicate, get_or-replicate}
+use Rattle.std.specs.Iterator.{Yields, YieldsFirst}
+use Rattle.std.proofs.lemmas.Iterator.{YieldsList}
+use Rattle.std.proofs.lemmas.Iterator.Consumers.{YieldsList-from_first, YieldsList-turn, YieldsList-end}
+use Rattle.std.proofs.lemmas.List.FromFn.{length-map-range_with_len, get_or-map-range_with_len, sum_by-map-range_with_len_more}
+use Rattle.std.specs.List.{sum_by, range_with_len}
 use Rattle.std.proofs.lemmas.Bool.{and_parts, cases_Bool, cases_eq, cases_lt, cond-true, cond-false, leb-true, ltb-true, eq-eqb}
 use Rattle.sizes.specs.declared.height.Height.{Height}
 use Rattle.sizes.specs.declared.width.Width.{Width}
 use Rattle.sizes.specs.Sizes.{levels, bits}
 use Rattle.plan.specs.declared.group.Group.{Group}
 use Rattle.plan.specs.declared.plans.Plan.{Plan}
-use Rattle.plan.specs.Groups.{group_of}
+use Rattle.plan.specs.Groups.{group_of, groups}
 use Rattle.plan.specs.Members.{members}
 use Rattle.plan.specs.View.{view}
 use Rattle.plan.specs.Shape.{Shape}
 use Rattle.plan.specs.Keys.{share, first_key, key_count, Owns, in_range, owner_from, owner}
 use Rattle.plan.specs.Laws.{Ranges}
+use Rattle.plan.proofs.Found.{plan_ranges, keys_most}
 use Rattle.layout.specs.declared.section.Section.{Section}
 use Rattle.layout.specs.Laws.{Places}
 use Rattle.layout.specs.Part.{part_rows}
+use Rattle.layout.proofs.Few.{part_few}
 use Rattle.layout.specs.Table.{rows_of_group, start_of, section_of, place_in, table_rows, find, by_owner, in_table}
 
 -- a section without keys is never found
@@ -59,18 +66,6 @@ find_owner p (x ∷ xs) g (suc k) there bare few key =
     ∙ sym (ap (option_map (section_of p)) (cond-false (in_range (first_key p g) (key_count p g) key) (Some g) (owner_from p (g + 1) k key) f)))
     (cases_Bool (in_range (first_key p g) (key_count p g) key))
 
--- finding by looking at one after the other: what lies before place n has not the key
-pub find_at : (xs : List Section) (n key : ℕ) (d : Section) → n < length xs → find (drop n xs) key ≡ cond (in_range (get_or xs n d).first (get_or xs n d).count key) (Some (get_or xs n d)) (find (drop (suc n) xs) key)
-find_at [] n key d l = absurd (omega arith)
-find_at (x ∷ xs) zero key d l = refl
-find_at (x ∷ xs) (suc n) key d l = find_at xs n key d (omega arith)
-
-pub find_end : (xs : List Section) (n key : ℕ) → length xs ≤ n → find (drop n xs) key ≡ None
-find_end [] zero key l = refl
-find_end [] (suc n) key l = refl
-find_end (x ∷ xs) zero key l = absurd (omega arith)
-find_end (x ∷ xs) (suc n) key l = find_end xs n key (omega arith)
-
 -- ---- the sections of the first n groups, in front of a list, with no key behind them
 abbrev pub Front : Shape → ℕ → List Section → Type 0
 Front p n xs = (j : ℕ) (d : Section) → j < n → get_or xs j d ≡ section_of p j
@@ -100,12 +95,6 @@ start_none p = refl
 
 pub first_next : (p : Shape) (n : ℕ) → first_key p (n + 1) ≡ first_key p n + key_count p n
 first_next p n = mul-add (share p) n 1 ∙ ap (λ x. share p * n + x) (mul-one (share p))
-
--- the keys of a group end within the tree
-pub top_first : (p : Shape) → Ranges p → (n : ℕ) → n < length p.masks → 2 ^ p.height ≤ 1024 → first_key p (n + 1) ≤ 1024
-top_first p r n l top =
-    let up : share p * (n + 1) ≤ share p * length p.masks = mul-le-mul_left (share p) (omega arith) in
-    omega (arith, up, r.rest, top)
 
 pub start_next : (p : Shape) (g : ℕ) → start_of p (g + 1) ≡ start_of p g + key_count p g * rows_of_group p g
 unfolding start_of
@@ -153,15 +142,75 @@ places p r = record {
         let up = steps (rows_of_group p k) (a - first_key p k) (b - first_key p k) (omega (arith, oa.1, ob.1)) in
         omega (arith, up, e)
 
--- what a step adds, and that the table stays small
-pub more : (p : Shape) (n start count rows : ℕ) → count ≡ key_count p n → rows ≤ 8723 → start ≤ first_key p n * 8723 → start + count * rows ≤ first_key p (n + 1) * 8723
-more p n start count rows e few low =
-    let wide : count * rows ≤ count * 8723 = mul-le-mul_left count few in
-    let next : first_key p (n + 1) ≡ first_key p n + key_count p n = first_next p n in
-    let spread : (first_key p n + key_count p n) * 8723 ≡ first_key p n * 8723 + key_count p n * 8723 = add-mul (first_key p n) (key_count p n) 8723 in
-    let same : count * 8723 ≡ key_count p n * 8723 = ap (λ x. x * 8723) e in
-    let turned : first_key p (n + 1) * 8723 ≡ (first_key p n + key_count p n) * 8723 = ap (λ x. x * 8723) next in
-    omega (arith, low, wide, spread, same, turned)
+-- each group has few rows, and so has the table
+pub start_few : (plan : Plan) (n : ℕ) → start_of (view plan) n ≤ first_key (view plan) n * 8723
+start_few plan zero = omega (arith, start_none (view plan))
+start_few plan (suc n) =
+    let p = view plan in
+    let e : suc n ≡ n + 1 = omega arith in
+    let wide : key_count p n * rows_of_group p n ≤ key_count p n * 8723 = mul-le-mul_left (key_count p n) (part_few plan.height plan.width (get_or p.masks n 0)) in
+    let next : first_key p (suc n) * 8723 ≡ first_key p n * 8723 + key_count p n * 8723 = ap (λ m. first_key p m * 8723) e ∙ ap (λ x. x * 8723) (first_next p n) ∙ add-mul (first_key p n) (key_count p n) 8723 in
+    omega (arith, start_few plan n, wide, next, ap (start_of p) e, start_next p n)
+
+pub start_within : (plan : Plan) (n : ℕ) → n ≤ length (view plan).masks → start_of (view plan) n ≤ 1024 * 8723
+start_within plan n l =
+    let p = view plan in
+    let r = plan_ranges plan in
+    let up : share p * n ≤ share p * length p.masks = mul-le-mul_left (share p) l in
+    omega (arith, start_few plan n, up, r.rest, keys_most plan.height)
+
+-- the rows of the first n groups
+pub rows_sum : (p : Shape) (n : ℕ) → sum_by (λ (g : Group). g.count * part_rows p.height p.width (length (members g.mask))) (map (group_of p) (range_with_len 0 n)) ≡ start_of p n
+rows_sum p zero = start_none p
+rows_sum p (suc n) =
+    let rows : Group → ℕ = λ g. g.count * part_rows p.height p.width (length (members g.mask)) in
+    let e : suc n ≡ n + 1 = omega arith in
+    ap (λ m. sum_by rows (map (group_of p) (range_with_len 0 m))) e ∙ sum_by-map-range_with_len_more rows (group_of p) 0 n n (omega arith)
+    ∙ ap (λ x. x + rows (group_of p n)) (rows_sum p n) ∙ sym (start_next p n) ∙ ap (start_of p) (sym e)
+
+-- the groups of a plan, one after the other: the items so far are `gs`, and `left` is what is left
+module _ (p : Shape) (all : List Group) (is : all ≡ groups p) (gs left : List Group) (so_far : Yields (YieldsFirst (λ rest. rest)) all gs left) where
+  road : YieldsList (YieldsFirst (λ rest. rest)) (λ (g : Group). g) all (groups p)
+  road = YieldsList-from_first (λ (g : Group). g) (λ rest. rest) (groups p) is
+
+  pub group_turn : (r : Option Group) (next : List Group) (g : Group) → r ≡ Some g → YieldsFirst (λ rest. rest) left r next → (length gs < length p.masks) × (g ≡ group_of p (length gs))
+  group_turn r next g some steps =
+      let t = YieldsList-turn road gs left so_far r next g some steps in
+      let l : length gs < length p.masks = omega (arith, t.0, length-map-range_with_len (group_of p) 0 (length p.masks)) in
+      (l, t.1 ∙ get_or-map-range_with_len (group_of p) 0 (length p.masks) (length gs) (length gs) g l (omega arith))
+
+  pub groups_end : (r : Option Group) (next : List Group) → r ≡ None → YieldsFirst (λ rest. rest) left r next → length gs ≡ length p.masks
+  groups_end r next none steps = (YieldsList-end road gs left so_far r next none steps).1 ∙ length-map-range_with_len (group_of p) 0 (length p.masks)
+
+-- once n groups are laid, the next but one row of the table is `start`
+pub record Laid (p : Shape) (n : ℕ) (all : List Section) (start : ℕ) : Type 0 where
+  pub long : length all ≡ 70
+  pub front : Front p n all
+  pub behind : Behind n all
+  pub at : start ≡ start_of p n
+
+pub laid_none : (p : Shape) → Laid p 0 (replicate 70 (record { first = 0; count = 0; rows = 0; start = 0 })) 0
+laid_none p =
+    let none : Section = record { first = 0; count = 0; rows = 0; start = 0 } in
+    let long = length-replicate 70 none in
+    record {
+      long = long;
+      front = λ j d l. absurd (omega arith);
+      behind = λ j d l m. ap (λ (s : Section). s.count) (get_or-replicate 70 j none d (omega arith));
+      at = start_none p;
+    }
+
+-- one group more
+pub laid_more : (p : Shape) (n i m : ℕ) (all : List Section) (start : ℕ) (s : Section) → Laid p n all start → i ≡ n → m ≡ n + 1 → n < 70 → s ≡ section_of p n → Laid p m (set all i s) (start + s.count * s.rows)
+laid_more p n i m all start s laid ei em l e =
+    subst (λ k. Laid p k (set all i s) (start + s.count * s.rows)) (sym em)
+    (subst (λ k. Laid p (n + 1) (set all k s) (start + s.count * s.rows)) (sym ei)
+    (record {
+      long = length-set all n s ∙ laid.long;
+      front = front_more p n all s (omega (arith, laid.long)) e laid.front;
+      behind = behind_less n all s laid.behind;
+      at = (λ j. laid.at j + (e j).count * (e j).rows) ∙ sym (start_next p n);
+    }))
 
 -- the rows of a group that was looked up
 pub group_rows : (plan : Plan) (n : ℕ) (g : Group) (h : Height) (w : Width) (r : ℕ) → h ≡ plan.height → w ≡ plan.width → g ≡ group_of (view plan) n →

@@ -1,5 +1,6 @@
 -- Where each part lies in the public table: the parts of the dealt keys one behind another, by rising key. All numbers count rows.
-use Rattle.std.specs.Prelude.{ℕ, zero, suc, ◌+◌, ◌-◌, ◌*◌, cond, List, [], ◌∷◌, length, Some, None, Option, ◌==◌, slice_index}
+use Rattle.std.specs.Prelude.{ℕ, zero, suc, ◌+◌, ◌-◌, ◌*◌, cond, List, length, Some, None, Option, ◌==◌, slice_index}
+use Rattle.std.specs.List.{find as first_with}
 use Rattle.plan.specs.Shape.{Shape}
 use Rattle.plan.specs.Keys.{first_key, key_count, in_range, owner}
 use Rattle.plan.specs.Members.{members}
@@ -29,8 +30,7 @@ place_in s key = s.start + (key - s.first) * s.rows
 
 -- of some sections, the first whose keys have a key
 abbrev pub find : List Section → ℕ → Option Section
-find [] key = None
-find (s ∷ rest) key = cond (in_range s.first s.count key) (Some s) (find rest key)
+find sections key = first_with (λ s. in_range s.first s.count key) sections
 
 -- ---- in a buffer of n bytes
 -- what the owner of a key gives it in a buffer of the whole table's length; elsewhere, and to a key without an owner, nothing

@@ -23,12 +23,7 @@ pub fn table_rows(plan: &Plan) -> usize
     ensures value { result ≡ table_rows (view plan.now) }
     ensures few { result ≤ 1024 * 8723 }
 {
-    let mut rows = 0;
-    for number in 0..plan.groups() {
-        let Some(group) = plan.group(number) else {
-            unreachable()
-        };
-        rows += group.count as usize * part_rows(plan.height(), plan.width(), &group);
-    }
-    rows
+    plan.iter()
+        .map(|group| group.count as usize * part_rows(plan.height(), plan.width(), &group))
+        .sum()
 }

@@ -6,20 +6,21 @@ ghost use Rattle.layout.specs.Table.{part_start, part_size};
 use crate::part::table_rows;
 use crate::sections::Sections;
 use plan::Plan;
+use std::ops::Range;
 
-// Where the bytes of a key's part begin and end in a buffer of some length: both 0 for a key that is not dealt, and in a buffer that has not
-// the whole table's length.
-pub fn part_range(plan: &Plan, key: u32, length: usize) -> (usize, usize)
-    ensures start { result.0 ≡ part_start (view plan.now) key length }
-    ensures end { result.1 ≡ part_start (view plan.now) key length + part_size (view plan.now) key length }
-    ensures inside { (result.0 ≤ result.1) × (result.1 ≤ length) }
+// Which bytes of a buffer of some length are a key's part: none for a key that is not dealt, and in a buffer that has not the whole table's
+// length.
+pub fn part_range(plan: &Plan, key: u32, length: usize) -> Range<usize>
+    ensures start { result.start ≡ part_start (view plan.now) key length }
+    ensures end { result.end ≡ part_start (view plan.now) key length + part_size (view plan.now) key length }
+    ensures inside { (result.start ≤ result.end) × (result.end ≤ length) }
 {
     if length != 32 * table_rows(plan) {
-        return (0, 0);
+        return 0..0;
     }
     let Some(section) = Sections::of(plan).find(key) else {
-        return (0, 0);
+        return 0..0;
     };
     let start = 32 * section.place(key);
-    (start, start + 32 * section.rows as usize)
+    start..start + 32 * section.rows as usize
 }

@@ -10,7 +10,8 @@ use crate::part::part_rows;
 use crate::section::Section;
 use plan::Plan;
 
-// Those of the groups stand in front; the others have no key. They are plain numbers, so that a table which holds them fits anywhere.
+// Those of the groups stand in front, and the others have no key: a plan has at most 70 groups, and no memory is asked for. They are plain
+// numbers, so that a table which holds them fits anywhere.
 #[derive(Clone, Copy)]
 pub struct Sections {
     pub all: [Section; 70],
@@ -31,12 +32,9 @@ impl Sections {
     {
         let mut all = [NONE; 70];
         let mut start = 0;
-        for number in 0..plan.groups() {
-            let Some(group) = plan.group(number) else {
-                unreachable()
-            };
+        for group in plan.iter() {
             let rows = part_rows(plan.height(), plan.width(), &group);
-            all[number] = Section {
+            all[group.number] = Section {
                 first: group.first,
                 count: group.count,
                 rows: rows as u16,
@@ -51,17 +49,6 @@ impl Sections {
     pub fn find(&self, key: u32) -> Option<Section>
         ensures { result ≡ find self.now.all key }
     {
-        found(&self.all, key)
+        self.all.iter().find(|section| section.has(key)).copied()
     }
-}
-
-fn found(sections: &[Section], key: u32) -> Option<Section>
-    ensures { result ≡ find sections.now key }
-{
-    for section in sections {
-        if section.has(key) {
-            return Some(*section);
-        }
-    }
-    None
 }

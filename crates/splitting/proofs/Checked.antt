@@ -1,20 +1,24 @@
 -- The checks before a split, one by one.
-use Rattle.std.proofs.Common.{◌≡◌, ℕ, ◌*◌, true, false, eqb, List, [], ◌∷◌, map, length, Some, None, Option, refl, ◌∙◌, arith}
+use Rattle.std.proofs.Common.{◌≡◌, ℕ, ◌*◌, true, false, eqb, List, length, Some, None, Option, sym, refl, ap, ◌∙◌, arith}
 use Rattle.std.specs.Option.{option_map}
-use Rattle.std.proofs.lemmas.Bool.{cond-true, cond-false}
+use Rattle.std.proofs.lemmas.Bool.{cond-true, cond-false, eq-eqb}
+use Rattle.sizes.specs.declared.height.Height.{Height}
+use Rattle.sizes.specs.declared.width.Width.{Width}
+use Rattle.sizes.specs.Sizes.{levels, bits}
 use Rattle.plan.specs.declared.group.Group.{Group}
+use Rattle.plan.specs.declared.plans.Plan.{Plan}
+use Rattle.plan.specs.Members.{members}
+use Rattle.plan.specs.View.{view}
 use Rattle.plan.specs.Shape.{Shape}
 use Rattle.plan.specs.Keys.{owner}
 use Rattle.plan.specs.Groups.{group_of, owning}
+use Rattle.layout.specs.Part.{part_rows}
 use Rattle.layout.specs.Table.{rows_of_group}
+use Rattle.layout.proofs.Lying.{group_rows}
 use Rattle.pads.specs.Source.{Source}
 use Rattle.splitting.specs.declared.refusal.Refusal.TheVariants.{Sources, SameChecks, Buffer, NotHeld}
 use Rattle.splitting.specs.Sources.{distinct, all_hold}
-use Rattle.splitting.specs.Split.{unless, members_of, of_owner, part_long, refusal}
-
-pub length_mapped : {A B : Type 0} (f : A → B) (xs : List A) → length (map f xs) ≡ length xs
-length_mapped f [] = refl
-length_mapped f (x ∷ xs) = let l = length_mapped f xs in omega (arith, l)
+use Rattle.splitting.specs.Split.{unless, of_owner, part_long, refusal}
 
 module _ (p : Shape) (sources : List Source) (key n : ℕ) where
   pub few_sources : eqb (length sources) p.trustees ≡ false → refusal p sources key n ≡ Some Sources
@@ -48,8 +52,13 @@ module _ (p : Shape) (sources : List Source) (key n : ℕ) where
       from None h = let z : ◌≡◌ {A = ℕ} 0 1 = cc in absurd (omega arith)
       from (Some g) h = (g, refl, taken group (group_of p g) h)
 
-  pub other_length : (g : ℕ) → eqb n (32 * rows_of_group p g) ≡ false → of_owner p sources key (part_long p n) (Some g) ≡ Some Buffer
-  other_length g e = cond-false (eqb n (32 * rows_of_group p g)) _ (Some Buffer) e
-
-  pub past_length : (g : ℕ) → eqb n (32 * rows_of_group p g) ≡ true → of_owner p sources key (part_long p n) (Some g) ≡ unless (all_hold sources (members_of p g) key) NotHeld None
-  past_length g e = cond-true (eqb n (32 * rows_of_group p g)) _ (Some Buffer) e
+-- what is left to check of a group that was looked up
+pub past_three : (plan : Plan) (sources : List Source) (key n : ℕ) (group : Group) (h : Height) (w : Width) (r : ℕ) →
+    h ≡ plan.height → w ≡ plan.width → r ≡ part_rows (levels h) (bits w) (length (members group.mask)) → Some group ≡ owning (view plan) key → length sources ≡ plan.trustees → distinct sources ≡ true →
+    refusal (view plan) sources key n ≡ unless (eqb n (32 * r)) Buffer (unless (all_hold sources (members group.mask) key) NotHeld None)
+past_three plan sources key n group h w r eh ew er e l d =
+    let p = view plan in
+    let found = one_owns p sources key n group e in
+    let rows : r ≡ rows_of_group p found.0 = group_rows plan found.0 group h w r eh ew found.2 er in
+    past_two p sources key n (eq-eqb _ _ l) d ∙ ap (of_owner p sources key (part_long p n)) found.1
+    ∙ (λ i. unless (eqb n (32 * sym rows i)) Buffer (unless (all_hold sources (members (sym found.2 i).mask) key) NotHeld None))

@@ -1,4 +1,7 @@
+pub mod Made
+pub mod Blocks
 pub mod Listed
 pub mod Checked
 pub mod Undone
 pub mod Placed
+pub mod Granted

@@ -1,42 +1,20 @@
 -- Lists of sources and of members, looked at one after the other.
-use Rattle.std.proofs.Common.{◌≡◌, ℕ, zero, suc, ◌+◌, ◌-◌, ◌<◌, ◌≤◌, true, false, not, ◌&&◌, ◌||◌, List, [], ◌∷◌, map, length, get_or, take, drop, replicate, sym, refl, ap, ◌∙◌, ap₂, arith, length-drop}
+use Rattle.std.proofs.Common.{◌≡◌, ℕ, zero, suc, ◌-◌, ◌<◌, ◌≤◌, Bool, ◌||◌, List, [], ◌∷◌, ◌++◌, map, length, get_or, replicate, refl, ap, ◌∙◌, ap₂, arith}
 use lib.Bits.{xor_zero_r}
-use Rattle.std.proofs.lemmas.List.{take_all}
+use Rattle.std.specs.List.{list_any}
 use Rattle.rows.specs.Bytes.{xored}
 use Rattle.rows.proofs.Added.{length_xored}
 use Rattle.pads.specs.declared.label.Label.{Label}
 use Rattle.pads.specs.Source.{Source}
-use Rattle.splitting.specs.Sources.{no_source, clash, clashes_any, distinct, source_of, all_hold, padded}
+use Rattle.splitting.specs.Sources.{no_source, source_of, padded}
 
-pub tail : {A : Type 0} (xs : List A) (n : ℕ) → take (length xs - n) (drop n xs) ≡ drop n xs
-tail xs n = take_all (length xs - n) (drop n xs) (omega (arith, length-drop n xs))
+-- tests of what a function makes of each element
+pub any_mapped : {A B : Type 0} (test : B → Bool) (f : A → B) (xs : List A) → list_any (λ x. test (f x)) xs ≡ list_any test (map f xs)
+any_mapped test f [] = refl
+any_mapped test f (x ∷ xs) = ap (λ b. test (f x) || b) (any_mapped test f xs)
 
 -- ---- sources, by a function from values to what they mean
 module _ {P : Type 0} (f : P → Source) where
-  pub any_at : (a : Source) (xs : List P) (n : ℕ) (d : P) → n < length xs → clashes_any a (map f (drop n xs)) ≡ (clash a (f (get_or xs n d)) || clashes_any a (map f (drop (n + 1) xs)))
-  any_at a [] n d l = absurd (omega arith)
-  any_at a (x ∷ xs) zero d l = refl
-  any_at a (x ∷ xs) (suc n) d l = let next : suc n + 1 ≡ suc (n + 1) = omega arith in any_at a xs n d (omega arith) ∙ ap (λ m. clash a (f (get_or xs n d)) || clashes_any a (map f (drop m (x ∷ xs)))) (sym next)
-
-  pub any_end : (a : Source) (xs : List P) (n : ℕ) → length xs ≤ n → clashes_any a (map f (drop n xs)) ≡ false
-  any_end a [] zero l = refl
-  any_end a [] (suc n) l = refl
-  any_end a (x ∷ xs) zero l = absurd (omega arith)
-  any_end a (x ∷ xs) (suc n) l = any_end a xs n (omega arith)
-
-  pub distinct_at : (xs : List P) (n : ℕ) (d : P) → n < length xs → distinct (map f (drop n xs)) ≡ (not (clashes_any (f (get_or xs n d)) (map f (drop (n + 1) xs))) && distinct (map f (drop (n + 1) xs)))
-  distinct_at [] n d l = absurd (omega arith)
-  distinct_at (x ∷ xs) zero d l = refl
-  distinct_at (x ∷ xs) (suc n) d l =
-      let next : suc n + 1 ≡ suc (n + 1) = omega arith in
-      distinct_at xs n d (omega arith) ∙ ap (λ m. not (clashes_any (f (get_or xs n d)) (map f (drop m (x ∷ xs)))) && distinct (map f (drop m (x ∷ xs)))) (sym next)
-
-  pub distinct_end : (xs : List P) (n : ℕ) → length xs ≤ n → distinct (map f (drop n xs)) ≡ true
-  distinct_end [] zero l = refl
-  distinct_end [] (suc n) l = refl
-  distinct_end (x ∷ xs) zero l = absurd (omega arith)
-  distinct_end (x ∷ xs) (suc n) l = distinct_end xs n (omega arith)
-
   pub source_at : (xs : List P) (t : ℕ) (d : P) → t - 1 < length xs → source_of (map f xs) t ≡ f (get_or xs (t - 1) d)
   source_at xs t d l = at xs (t - 1) l
     where
@@ -53,28 +31,15 @@ module _ {P : Type 0} (f : P → Source) where
       past (y ∷ ys) zero m = absurd (omega arith)
       past (y ∷ ys) (suc i) m = past ys i (omega arith)
 
+pub map_same : {A : Type 0} (xs : List A) → map (λ x. x) xs ≡ xs
+map_same [] = refl
+map_same (x ∷ xs) = ap (λ ys. x ∷ ys) (map_same xs)
+
 -- ---- members
-pub hold_at : (sources : List Source) (ts : List ℕ) (key n : ℕ) → n < length ts → all_hold sources (drop n ts) key ≡ ((source_of sources (get_or ts n 0)).held key && all_hold sources (drop (n + 1) ts) key)
-hold_at sources [] key n l = absurd (omega arith)
-hold_at sources (t ∷ ts) key zero l = refl
-hold_at sources (t ∷ ts) key (suc n) l =
-    let next : suc n + 1 ≡ suc (n + 1) = omega arith in
-    hold_at sources ts key n (omega arith) ∙ ap (λ m. (source_of sources (get_or ts n 0)).held key && all_hold sources (drop m (t ∷ ts)) key) (sym next)
-
-pub hold_end : (sources : List Source) (ts : List ℕ) (key n : ℕ) → length ts ≤ n → all_hold sources (drop n ts) key ≡ true
-hold_end sources [] key zero l = refl
-hold_end sources [] key (suc n) l = refl
-hold_end sources (t ∷ ts) key zero l = absurd (omega arith)
-hold_end sources (t ∷ ts) key (suc n) l = hold_end sources ts key n (omega arith)
-
 -- pads of one more member
-pub padded_more : (sources : List Source) (ts : List ℕ) (n : ℕ) (l : Label) (row : List ℕ) → n < length ts →
-    padded sources (take (n + 1) ts) l row ≡ xored (padded sources (take n ts) l row) ((source_of sources (get_or ts n 0)).pad l)
-padded_more sources [] n l row m = absurd (omega arith)
-padded_more sources (t ∷ ts) zero l row m = refl
-padded_more sources (t ∷ ts) (suc n) l row m =
-    let next : suc n + 1 ≡ suc (n + 1) = omega arith in
-    ap (λ k. padded sources (take k (t ∷ ts)) l row) next ∙ padded_more sources ts n l (xored row ((source_of sources t).pad l)) (omega arith)
+pub padded_more : (sources : List Source) (ts : List ℕ) (t : ℕ) (l : Label) (row : List ℕ) → padded sources (ts ++ t ∷ []) l row ≡ xored (padded sources ts l row) ((source_of sources t).pad l)
+padded_more sources [] t l row = refl
+padded_more sources (u ∷ us) t l row = padded_more sources us t l (xored row ((source_of sources u).pad l))
 
 pub length_padded : (sources : List Source) (ts : List ℕ) (l : Label) (row : List ℕ) → length (padded sources ts l row) ≡ length row
 length_padded sources [] l row = refl

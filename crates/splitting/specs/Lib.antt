@@ -1,4 +1,5 @@
 pub mod Labelled
+pub mod KeyParts
 pub mod Sources
 pub mod Refusals
 pub mod Split

@@ -1,5 +1,6 @@
 -- The trustees' pad sources, in trustee order, by what they mean.
-use Rattle.std.specs.Prelude.{ℕ, ◌-◌, Bool, true, false, not, ◌&&◌, ◌||◌, List, [], ◌∷◌, replicate, slice_index_or}
+use Rattle.std.specs.Prelude.{ℕ, ◌-◌, Bool, true, false, not, ◌&&◌, List, [], ◌∷◌, replicate, slice_index_or}
+use Rattle.std.specs.List.{list_any, list_all}
 use Rattle.std.specs.Str.{bytes_eq}
 use Rattle.rows.specs.Bytes.{xored}
 use Rattle.pads.specs.declared.label.Label.{Label}
@@ -14,8 +15,7 @@ abbrev pub clash : Source → Source → Bool
 clash a b = a.held 0 && (b.held 0 && bytes_eq (a.check 0 (replicate 32 0)) (b.check 0 (replicate 32 0)))
 
 abbrev pub clashes_any : Source → List Source → Bool
-clashes_any a [] = false
-clashes_any a (b ∷ bs) = clash a b || clashes_any a bs
+clashes_any a others = list_any (clash a) others
 
 -- no two of them clash
 abbrev pub distinct : List Source → Bool
@@ -27,8 +27,7 @@ abbrev pub source_of : List Source → ℕ → Source
 source_of sources t = slice_index_or sources (t - 1) no_source
 
 abbrev pub all_hold : List Source → List ℕ → ℕ → Bool
-all_hold sources [] key = true
-all_hold sources (t ∷ ts) key = (source_of sources t).held key && all_hold sources ts key
+all_hold sources ts key = list_all (λ t. (source_of sources t).held key) ts
 
 -- a row with the pads of some trustees at a label added to it
 abbrev pub padded : List Source → List ℕ → Label → List ℕ → List ℕ

@@ -1,29 +1,36 @@
 // The labels of the rows of a key's part.
-ghost use Rattle.std.specs.Prelude.{◌≡◌, ℕ, ◌+◌, ◌/◌, ◌%◌, ◌<◌, ◌≤◌, slice_index_or};
-ghost use Rattle.sizes.specs.Sizes.{levels, bits};
+ghost use Rattle.std.specs.Prelude.{◌≡◌, ℕ, ◌+◌, ◌/◌, ◌%◌, ◌<◌, length, slice_index_or};
+ghost use Rattle.sizes.specs.Sizes.{bits};
+ghost use Rattle.plan.specs.Members.{members};
+ghost use Rattle.plan.specs.View.{view};
 ghost use Rattle.pads.specs.Source.{nothing};
 ghost use Rattle.lms.specs.Scheme.{positions};
 ghost use Rattle.splitting.specs.Labelled.{label_at, component_label};
+ghost use Rattle.splitting.specs.KeyParts.{label_in};
 
+use crate::key_part::KeyPart;
 use lms::scheme;
 use pads::Label;
-use sizes::{Height, Width};
-
-// A key's part in a group of some members.
-#[derive(Clone, Copy)]
-pub(crate) struct KeyPart {
-    pub(crate) height: Height,
-    pub(crate) width: Width,
-    pub(crate) members: usize,
-    pub(crate) key: u32,
-}
+use plan::{Group, Plan};
+use std::array::from_fn;
 
 impl KeyPart {
+    // The part of a key of a plan's group.
+    pub(crate) fn of(plan: &Plan, group: &Group, key: u32) -> KeyPart
+        ensures { (n : ℕ) → label_in result n ≡ label_at (length (members group.now.mask)) (view plan.now).height (view plan.now).width key n }
+    {
+        KeyPart {
+            height: plan.height(),
+            width: plan.width(),
+            members: group.size(),
+            key,
+        }
+    }
+
     // The label of row n.
     fn label(&self, n: usize) -> Label
-        requires small { n < 65536 }
-        requires few { self.now.members ≤ 8 }
-        ensures { result ≡ label_at self.now.members (levels self.now.height) (bits self.now.width) self.now.key n }
+        requires { n < 65536 }
+        ensures { result ≡ label_in self.now n }
     {
         let path = 1 + self.members;
         let components = path + self.height.levels();
@@ -49,15 +56,9 @@ impl KeyPart {
 
     // The labels of eight rows from row `first` on.
     pub(crate) fn labels(&self, first: usize) -> [Label; 8]
-        requires small { first < 65528 }
-        requires few { self.now.members ≤ 8 }
-        ensures { (l : ℕ) → l < 8 →
-            slice_index_or result l nothing ≡ label_at self.now.members (levels self.now.height) (bits self.now.width) self.now.key (first + l) }
+        requires { first < 65528 }
+        ensures { (l : ℕ) → l < 8 → slice_index_or result l nothing ≡ label_in self.now (first + l) }
     {
-        let mut labels = [Label::prefix(self.key); 8];
-        for l in 0..8 {
-            labels[l] = self.label(first + l);
-        }
-        labels
+        from_fn(|l| self.label(first + l))
     }
 }

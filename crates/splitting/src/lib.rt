@@ -2,6 +2,7 @@
 #![tactic(auto)]
 
 mod checks;
+mod key_part;
 mod labelled;
 mod masking;
 mod refusal;
@@ -10,4 +11,5 @@ mod splits;
 
 pub use checks::check;
 pub use refusal::Refusal;
+pub use sources::source_of;
 pub use splits::split;

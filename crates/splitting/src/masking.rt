@@ -1,12 +1,12 @@
 // Pads added to the rows of a part.
 ghost use Rattle.std.specs.Prelude.{◌≡◌, ℕ, ◌+◌, ◌*◌, ◌<◌, ◌≤◌, ◌⊎◌, [], map, length, slice_index_or};
 ghost use Rattle.rows.specs.Bytes.{row_at, xored};
-ghost use Rattle.sizes.specs.Sizes.{levels, bits};
 ghost use Rattle.plan.specs.Members.{members};
-ghost use Rattle.splitting.specs.Labelled.{label_at};
+ghost use Rattle.splitting.specs.KeyParts.{label_in};
 ghost use Rattle.splitting.specs.Sources.{source_of, padded};
 
-use crate::labelled::KeyPart;
+use crate::key_part::KeyPart;
+use crate::sources::source_of;
 use pads::Pads;
 use plan::Group;
 use rows::{Row, add_row};
@@ -18,49 +18,41 @@ fn add_eight(out: &mut [u8], first: usize, pads: &[Row; 8])
         row_at (first + l) out.new ≡ xored (row_at (first + l) out.old) (slice_index_or pads.now l []) }
     ensures old { (m : ℕ) → (m < first) ⊎ (first + 8 ≤ m) → row_at m out.new ≡ row_at m out.old }
 {
-    for l in 0..8 {
-        add_row(out, first + l, &pads[l]);
+    for (l, pad) in pads.iter().enumerate() {
+        add_row(out, first + l, pad);
     }
 }
 
-// Adds a source's pads to all rows of a key's part.
+// Adds a source's pads to all rows of a key's part. A part has at most 8,723 rows, as layout says, so a row's number fits in a label.
 fn add_pads<P: Pads>(source: &P, part: KeyPart, out: &mut [u8])
-    requires few { part.members ≤ 8 }
-    requires room { length out.old ≤ 32 * 8723 }
+    requires { length out.old ≤ 32 * 8723 }
     ensures { (m : ℕ) → 32 * (m + 1) ≤ length out.old →
-        row_at m out.new ≡ xored (row_at m out.old) ((P.Pads.source source.now).pad (label_at part.members (levels part.height) (bits part.width) part.key m)) }
+        row_at m out.new ≡ xored (row_at m out.old) ((P.Pads.source source.now).pad (label_in part m)) }
 {
-    let count = out.len() / 32;
-    for b in 0..(count + 7) / 8 {
-        let pads = source.pads(&part.labels(8 * b));
-        add_eight(out, 8 * b, &pads);
+    for first in (0..out.len() / 32).step_by(8) {
+        let pads = source.pads(&part.labels(first));
+        add_eight(out, first, &pads);
     }
 }
 
 // Adds a trustee's pads.
 fn add_pads_of<P: Pads>(sources: &[P], trustee: u8, part: KeyPart, out: &mut [u8])
-    requires few { part.members ≤ 8 }
-    requires room { length out.old ≤ 32 * 8723 }
+    requires { length out.old ≤ 32 * 8723 }
     ensures { (m : ℕ) → 32 * (m + 1) ≤ length out.old →
-        row_at m out.new ≡ xored (row_at m out.old) ((source_of (map P.Pads.source sources.now) trustee).pad (label_at part.members (levels part.height) (bits part.width) part.key m)) }
+        row_at m out.new ≡ xored (row_at m out.old) ((source_of (map P.Pads.source sources.now) trustee).pad (label_in part m)) }
 {
-    let index = trustee.saturating_sub(1) as usize;
-    if index < sources.len() {
-        add_pads(&sources[index], part, out);
+    if let Some(source) = source_of(sources, trustee) {
+        add_pads(source, part, out);
     }
 }
 
 // Adds the pads of all members of a group.
 pub(crate) fn add_all<P: Pads>(sources: &[P], group: &Group, part: KeyPart, out: &mut [u8])
-    requires few { part.members ≤ 8 }
-    requires room { length out.old ≤ 32 * 8723 }
+    requires { length out.old ≤ 32 * 8723 }
     ensures { (m : ℕ) → 32 * (m + 1) ≤ length out.old →
-        row_at m out.new ≡ padded (map P.Pads.source sources.now) (members group.now.mask) (label_at part.members (levels part.height) (bits part.width) part.key m) (row_at m out.old) }
+        row_at m out.new ≡ padded (map P.Pads.source sources.now) (members group.now.mask) (label_in part m) (row_at m out.old) }
 {
-    for i in 0..group.size() {
-        let Some(trustee) = group.member(i) else {
-            unreachable()
-        };
+    for trustee in group.members() {
         add_pads_of(sources, trustee, part, out);
     }
 }

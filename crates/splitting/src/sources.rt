@@ -1,5 +1,5 @@
 // What is asked of the trustees' pad sources.
-ghost use Rattle.std.specs.Prelude.{◌≡◌, map, replicate};
+ghost use Rattle.std.specs.Prelude.{◌≡◌, ◌-◌, ◌<◌, ◌≤◌, map, length, replicate, MatchOption};
 ghost use Rattle.std.specs.Str.{bytes_eq};
 ghost use Rattle.plan.specs.Members.{members};
 ghost use Rattle.splitting.specs.Sources.{clash, clashes_any, distinct, source_of, all_hold};
@@ -24,45 +24,41 @@ fn clash<P: Pads>(a: &P, b: &P) -> bool
 fn clashes_any<P: Pads>(a: &P, others: &[P]) -> bool
     ensures { result ≡ clashes_any (P.Pads.source a.now) (map P.Pads.source others.now) }
 {
-    for b in others {
-        if clash(a, b) {
-            return true;
-        }
-    }
-    false
+    others.iter().any(|b| clash(a, b))
 }
 
 // Whether no two sources clash.
 pub(crate) fn distinct<P: Pads>(sources: &[P]) -> bool
     ensures { result ≡ distinct (map P.Pads.source sources.now) }
 {
-    for i in 0..sources.len() {
-        if clashes_any(&sources[i], &sources[i + 1..]) {
+    let mut rest = sources;
+    while let Some((source, others)) = rest.split_first() {
+        if clashes_any(source, others) {
             return false;
         }
+        rest = others;
     }
     true
+}
+
+// A trustee's source, where there is one.
+pub fn source_of<P: Pads>(sources: &[P], trustee: u8) -> Option<&P>
+    ensures { MatchOption result (length sources.now ≤ trustee - 1)
+        (λ source. (trustee - 1 < length sources.now) × (P.Pads.source source.now ≡ source_of (map P.Pads.source sources.now) trustee)) }
+{
+    sources.get(trustee.saturating_sub(1) as usize)
 }
 
 // Whether a trustee's source holds a key.
 fn holds<P: Pads>(sources: &[P], trustee: u8, key: u32) -> bool
     ensures { result ≡ (source_of (map P.Pads.source sources.now) trustee).held key }
 {
-    let index = trustee.saturating_sub(1) as usize;
-    index < sources.len() && sources[index].holds(key)
+    source_of(sources, trustee).is_some_and(|source| source.holds(key))
 }
 
 // Whether the sources of all members hold a key.
 pub(crate) fn all_hold<P: Pads>(sources: &[P], group: &Group, key: u32) -> bool
     ensures { result ≡ all_hold (map P.Pads.source sources.now) (members group.now.mask) key }
 {
-    for i in 0..group.size() {
-        let Some(trustee) = group.member(i) else {
-            unreachable()
-        };
-        if !holds(sources, trustee, key) {
-            return false;
-        }
-    }
-    true
+    group.members().all(|trustee| holds(sources, trustee, key))
 }

@@ -5,7 +5,7 @@ ghost use Rattle.splitting.specs.Split.{split};
 ghost use Rattle.splitting.specs.Laws.{Splitting};
 
 use crate::checks::check;
-use crate::labelled::KeyPart;
+use crate::key_part::KeyPart;
 use crate::masking::add_all;
 use crate::refusal::Refusal;
 use pads::Pads;
@@ -20,12 +20,6 @@ pub fn split<P: Pads>(plan: &Plan, sources: &[P], key: u32, rows: &mut [u8]) -> 
     ensures laws { Splitting }
 {
     let group = check(plan, sources, key, rows.len())?;
-    let part = KeyPart {
-        height: plan.height(),
-        width: plan.width(),
-        members: group.size(),
-        key,
-    };
-    add_all(sources, &group, part, rows);
+    add_all(sources, &group, KeyPart::of(plan, &group, key), rows);
     Ok(())
 }

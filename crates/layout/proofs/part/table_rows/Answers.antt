@@ -1,23 +1,34 @@
-use Rattle.std.proofs.Common.{◌+◌, ◌*◌, sym, ap, ◌∙◌, arith}
-use Rattle.plan.specs.Keys.{key_count}
+use Rattle.std.proofs.Common.{ℕ, ◌*◌, length, ◌∙◌, arith, rules, tests}
+use Rattle.std.specs.Iterator.Adapters.{map_source}
+use Rattle.std.proofs.lemmas.Iterator.{YieldsList-from_map}
+use Rattle.std.proofs.lemmas.Iterator.Consumers.{YieldsList-from_first, sum_by_from_yields_List, fits_by_from_yields_list}
+use Rattle.plan.specs.declared.group.Group.{Group}
+use Rattle.plan.specs.Groups.{groups}
+use Rattle.plan.specs.Members.{members}
 use Rattle.plan.specs.View.{view}
-use Rattle.plan.proofs.Found.{group_found}
-use Rattle.layout.specs.Table.{start_of}
-use Rattle.layout.proofs.Lying.{start_none, start_next, more, group_rows}
+use Rattle.layout.specs.Part.{part_rows}
+use Rattle.layout.proofs.Lying.{rows_sum, start_within}
 use Rattle.layout.proofs.part.table_rows.Goals as goal
 
-pub loop-number-init : goal.loop-number-init
-loop-number-init c = (start_none (view c.args.plan.now), omega arith)
+pub sum-requires-clause-fits : goal.sum-requires-clause-fits
+sum-requires-clause-fits c =
+    let plan = c.args.plan.now in
+    let p = view plan in
+    let rows : Group → ℕ = λ g. g.count * part_rows p.height p.width (length (members g.mask)) in
+    fits_by_from_yields_list rows (groups p) c.map.result _
+    (YieldsList-from_map _ rows (YieldsList-from_first (λ (g : Group). g) (λ rest. rest) {s = map_source c.map.result} (groups p) (c.map.ensures.source ∙ c.iter.ensures)) c.map.ensures.closure (λ x r q k. search (rules, tests)))
+    (omega (arith, rows_sum p (length p.masks), start_within plan (length p.masks) (omega arith)))
 
-pub loop-number-preserved : goal.loop-number-preserved
-loop-number-preserved c =
-    let p = view c.args.plan.now in
-    let n = c.loop-number.number in
-    let g = c.in-Some.group in
-    let found = group_found p n g c.in-Some.ensures in
-    let count = ap (λ x. x.count) found.1 in
-    let r = c.part_rows.result in
-    let rows = group_rows c.args.plan.now n g c.height.result c.width.result r c.height.ensures c.width.ensures found.1 c.part_rows.ensures.value in (
-      ap (λ x. x + g.count * r) c.loop-number.invariant.0 ∙ ap (λ x. start_of p n + x * r) count ∙ ap (λ x. start_of p n + key_count p n * x) rows ∙ sym (start_next p n),
-      more p n c.loop-number.rows g.count r count c.part_rows.ensures.few c.loop-number.invariant.1,
-    )
+pub returns-clause-value : goal.returns-clause-value
+returns-clause-value c =
+    let plan = c.args.plan.now in
+    let p = view plan in
+    let rows : Group → ℕ = λ g. g.count * part_rows p.height p.width (length (members g.mask)) in
+    sum_by_from_yields_List rows (groups p) c.map.result c.sum.result c.sum.ensures.ran
+    (YieldsList-from_map _ rows (YieldsList-from_first (λ (g : Group). g) (λ rest. rest) {s = map_source c.map.result} (groups p) (c.map.ensures.source ∙ c.iter.ensures)) c.map.ensures.closure (λ x r q k. search (rules, tests)))
+    ∙ rows_sum p (length p.masks)
+
+pub returns-clause-few : goal.returns-clause-few
+returns-clause-few c =
+    let plan = c.args.plan.now in
+    omega (arith, returns-clause-value c, start_within plan (length (view plan).masks) (omega arith))

@@ -1,31 +1,25 @@
-use Rattle.std.proofs.Common.{◌≡◌, map, length, sym, ap, ◌∙◌, ap₂, arith}
+use Rattle.std.proofs.Common.{map, sym, ap, ◌∙◌, arith}
 use Rattle.rows.specs.Bytes.{row_at, xored}
-use Rattle.sizes.specs.Sizes.{levels, bits}
-use Rattle.std.proofs.lemmas.List.{take_all}
+use Rattle.std.proofs.lemmas.Iterator.Consumers.{YieldsList-from_first, YieldsList-end}
 use Rattle.plan.specs.Members.{members}
-use Rattle.splitting.specs.Labelled.{label_at}
+use Rattle.splitting.specs.KeyParts.{label_in}
 use Rattle.splitting.specs.Sources.{source_of, padded}
-use Rattle.splitting.proofs.Listed.{padded_more}
+use Rattle.splitting.proofs.Listed.{padded_more, map_same}
 use Rattle.splitting.proofs.masking.add_all.Goals as goal
 
-pub loop-i-preserved : goal.loop-i-preserved
-loop-i-preserved g c = λ m room.
+pub loop-trustee-preserved : goal.loop-trustee-preserved
+loop-trustee-preserved g c = λ m room.
     let sources = map g.P.Pads.source c.args.sources.now in
-    let ts = members c.args.group.now.mask in
-    let n = c.loop-i.i in
-    let part = c.args.part in
-    let label = label_at part.members (levels part.height) (bits part.width) part.key m in
-    let found = c.in-Some.ensures in
-    let same : length c.loop-i.out ≡ length c.args.out.now = c.loop-i.auto.out in
-    c.add_pads_of.ensures m (omega (arith, same))
-    ∙ ap₂ xored (c.loop-i.invariant m room) (ap (λ t. (source_of sources t).pad label) found.1)
-    ∙ sym (padded_more sources ts n label (row_at m c.args.out.now) found.0)
+    let t = c.in-Some.trustee in
+    let label = label_in c.args.part m in
+    c.add_pads_of.ensures m (omega (arith, c.loop-trustee.auto.out))
+    ∙ ap (λ row. xored row ((source_of sources t).pad label)) (c.loop-trustee.invariant m room)
+    ∙ sym (padded_more sources c.loop-trustee.yielded t label (row_at m c.args.out.now))
 
 pub returns : goal.returns
 returns g c = λ m room.
-    let sources = map g.P.Pads.source c.args.sources.now in
     let ts = members c.args.group.now.mask in
-    let part = c.args.part in
-    let label = label_at part.members (levels part.height) (bits part.width) part.key m in
-    c.loop-i.invariant m room
-    ∙ ap (λ us. padded sources us label (row_at m c.args.out.now)) (take_all c.loop-i.i ts (omega (arith, c.size-i-end.ensures)))
+    let road = YieldsList-from_first (λ t. t) (λ rest. rest) ts (c.into_iter-trustee-iterator.ensures.into_iter_gives ∙ c.members-trustee-items.ensures) in
+    let all = sym (map_same c.loop-trustee.yielded) ∙ (YieldsList-end road c.loop-trustee.yielded c.loop-trustee.trustee-iterator c.loop-trustee.yielded_by c.next.result c.next.new.self c.in-None.is c.next.ensures.steps).0 in
+    c.loop-trustee.invariant m room
+    ∙ ap (λ us. padded (map g.P.Pads.source c.args.sources.now) us (label_in c.args.part m) (row_at m c.args.out.now)) all

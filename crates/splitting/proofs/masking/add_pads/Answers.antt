@@ -1,27 +1,25 @@
-use Rattle.std.proofs.Common.{◌≡◌, ◌+◌, ◌-◌, ◌*◌, ◌<◌, ◌≤◌, length, sym, ap, ◌∙◌, ap₂, inl, inr, ⊎_elim, arith}
-use Rattle.rows.specs.Bytes.{row_at, xored}
-use Rattle.sizes.specs.Sizes.{levels, bits}
-use Rattle.std.proofs.lemmas.Bool.{cases_lt}
-use Rattle.splitting.specs.Labelled.{label_at}
+use Rattle.std.proofs.Common.{◌+◌, [], get_or, ap, ◌∙◌, arith}
+use Rattle.splitting.specs.KeyParts.{label_in}
+use Rattle.splitting.proofs.Blocks.{Added, none_added, eight_added}
 use Rattle.splitting.proofs.masking.add_pads.Goals as goal
 
-pub loop-b-preserved : goal.loop-b-preserved
-loop-b-preserved g c =
-    let out = c.loop-b.out in
-    let b = c.loop-b.b in
-    let part = c.args.part in
+pub loop-first-init : goal.loop-first-init
+loop-first-init g c = none_added _ c.args.out.now c.args.out.now c.args.out.now
+
+pub loop-first-preserved : goal.loop-first-preserved
+loop-first-preserved g c =
     let pad = (g.P.Pads.source c.args.source.now).pad in
-    let label = label_at part.members (levels part.height) (bits part.width) part.key in
-    let same : length out ≡ length c.args.out.now = c.loop-b.auto.out in (
-      (λ m l room.
-          ⊎_elim
-          (λ (low : m < 8 * b). c.add_eight.ensures.old m (inl low) ∙ c.loop-b.invariant.0 m low room)
-          (λ (high : 8 * b ≤ m).
-          let k = m - 8 * b in
-          let e : 8 * b + k ≡ m = omega arith in
-          let small : k < 8 = omega arith in
-          ap (λ i. row_at i c.add_eight.new.out) (sym e) ∙ c.add_eight.ensures.new k small (omega (arith, same))
-          ∙ ap₂ xored (ap (λ i. row_at i out) e ∙ c.loop-b.invariant.1 m high) (c.pads-pads.ensures k small ∙ ap pad (c.labels.ensures k small ∙ ap label e)))
-          (cases_lt m (8 * b))),
-      (λ m l. c.add_eight.ensures.old m (inr (omega arith)) ∙ c.loop-b.invariant.1 m (omega arith)),
-    )
+    eight_added _ c.args.out.now c.loop-first.out c.add_eight.new.out c.loop-first.first (λ k. get_or c.pads-pads.result k []) c.loop-first.auto.out c.loop-first.invariant
+    (λ k l. c.pads-pads.ensures k l ∙ ap pad (c.labels.ensures k l)) c.add_eight.ensures.new c.add_eight.ensures.old
+
+pub returns : goal.returns
+returns g c = λ m room. c.loop-first.invariant.done m (omega arith) room
+
+pub returns-2 : goal.returns-2
+returns-2 g c = λ m room.
+    let pad = (g.P.Pads.source c.args.source.now).pad in
+    let part = c.args.part in
+    let all : Added (λ m. pad (label_in part m)) c.args.out.now c.add_eight.new.out (c.loop-first.first + 8) =
+    eight_added _ c.args.out.now c.loop-first.out c.add_eight.new.out c.loop-first.first (λ k. get_or c.pads-pads.result k []) c.loop-first.auto.out c.loop-first.invariant
+    (λ k l. c.pads-pads.ensures k l ∙ ap pad (c.labels.ensures k l)) c.add_eight.ensures.new c.add_eight.ensures.old in
+    all.done m (omega arith) room

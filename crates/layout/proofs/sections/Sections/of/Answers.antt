@@ -1,61 +1,79 @@
-use Rattle.std.proofs.Common.{◌≡◌, ◌+◌, ◌*◌, ◌≤◌, leb, length, sym, ap, ◌∙◌, arith}
-use Rattle.std.proofs.lemmas.List.{length-set, length-replicate, get_or-replicate}
+use Rattle.std.proofs.Common.{◌≡◌, ℕ, ◌+◌, ◌*◌, ◌<◌, ◌≤◌, leb, [], ◌∷◌, length, sym, ap, ◌∙◌, arith, length-append}
 use Rattle.std.proofs.lemmas.Bool.{and_parts, leb-true}
-use Rattle.plan.specs.Keys.{first_key, key_count}
+use Rattle.plan.specs.declared.group.Group.{Group}
+use Rattle.plan.specs.declared.plans.Plan.{Plan}
+use Rattle.plan.specs.Groups.{group_of}
 use Rattle.plan.specs.View.{view}
-use Rattle.plan.proofs.Found.{group_found, view_groups, plan_ranges, keys_most}
+use Rattle.plan.proofs.Found.{view_groups, plan_ranges}
 use Rattle.layout.specs.declared.section.Section.{Section}
-use Rattle.layout.specs.Table.{section_of, start_of}
-use Rattle.layout.proofs.Lying.{front_more, behind_less, start_none, start_next, more, top_first, find_owner, places, group_rows}
+use Rattle.layout.specs.Table.{section_of, start_of, rows_of_group}
+use Rattle.layout.proofs.Lying.{laid_none, laid_more, group_turn, groups_end, start_next, start_within, find_owner, places, group_rows}
 use Rattle.layout.proofs.sections.Sections.of.Goals as goal
 
-pub loop-number-init : goal.loop-number-init
-loop-number-init c = (
-  length-replicate {A = Section} 70 (record { first = 0; count = 0; rows = 0; start = 0 }),
-  (λ j d l. absurd (omega arith)),
-  (λ j d l m. ap (λ (s : Section). s.count) (get_or-replicate 70 j (record { first = 0; count = 0; rows = 0; start = 0 }) d (omega (arith, m, length-replicate {A = Section} 70 (record { first = 0; count = 0; rows = 0; start = 0 }))))),
-  start_none (view c.args.plan.now),
-  omega arith,
-)
+groups_few : (plan : Plan) → length (view plan).masks ≤ 70
+groups_few plan = omega (arith, view_groups plan, leb-true _ _ (and_parts (leb 1 plan.groups) (leb plan.groups 70) plan.groups_in).1)
+
+-- how far the table reaches with one group more
+far : (plan : Plan) (n start rows : ℕ) (g : Group) → start ≡ start_of (view plan) n → rows ≡ rows_of_group (view plan) n → (n < length (view plan).masks) × (g ≡ group_of (view plan) n) → start + g.count * rows ≤ 1024 * 8723
+far plan n start rows g at er turn =
+    let reached : start + g.count * rows ≡ start_of (view plan) (n + 1) = (λ i. at i + (turn.1 i).count * er i) ∙ sym (start_next (view plan) n) in
+    omega (arith, reached, start_within plan (n + 1) (omega (arith, turn.0)))
+
+pub loop-group-init : goal.loop-group-init
+loop-group-init c = laid_none (view c.args.plan.now)
+
+pub offset_bounds-all-group : goal.offset_bounds-all-group
+offset_bounds-all-group c =
+    let plan = c.args.plan.now in
+    let turn = group_turn (view plan) _ (c.into_iter-group-iterator.ensures.into_iter_gives ∙ c.iter-group-items.ensures) c.loop-group.yielded c.loop-group.group-iterator c.loop-group.yielded_by c.next.result c.next.new.self c.in-Some.group c.in-Some.is c.next.ensures.steps in
+    omega (arith, turn.0, ap (λ (x : Group). x.number) turn.1, groups_few plan)
+
+pub bounds-all-group : goal.bounds-all-group
+bounds-all-group c =
+    let plan = c.args.plan.now in
+    let turn = group_turn (view plan) _ (c.into_iter-group-iterator.ensures.into_iter_gives ∙ c.iter-group-items.ensures) c.loop-group.yielded c.loop-group.group-iterator c.loop-group.yielded_by c.next.result c.next.new.self c.in-Some.group c.in-Some.is c.next.ensures.steps in
+    omega (arith, turn.0, ap (λ (x : Group). x.number) turn.1, groups_few plan)
+
+pub overflow_mul-start : goal.overflow_mul-start
+overflow_mul-start c =
+    let plan = c.args.plan.now in
+    let turn = group_turn (view plan) _ (c.into_iter-group-iterator.ensures.into_iter_gives ∙ c.iter-group-items.ensures) c.loop-group.yielded c.loop-group.group-iterator c.loop-group.yielded_by c.next.result c.next.new.self c.in-Some.group c.in-Some.is c.next.ensures.steps in
+    let n = length c.loop-group.yielded in
+    let rows = group_rows plan n c.in-Some.group c.height.result c.width.result c.part_rows-rows.result c.height.ensures c.width.ensures turn.1 c.part_rows-rows.ensures.value in
+    omega (arith, far plan n c.loop-group.start c.part_rows-rows.result c.in-Some.group c.loop-group.invariant.at rows turn)
 
 pub overflow_add-start : goal.overflow_add-start
 overflow_add-start c =
-    let p = view c.args.plan.now in
-    let n = c.loop-number.number in
-    let found = group_found p n c.in-Some.group c.in-Some.ensures in
-    let low = more p n c.loop-number.start c.in-Some.group.count c.part_rows-rows.result (ap (λ g. g.count) found.1) c.part_rows-rows.ensures.few c.loop-number.invariant.4 in
-    let top : first_key p (n + 1) ≤ 1024 = top_first p (plan_ranges c.args.plan.now) n found.0 (keys_most c.args.plan.now.height) in
-    omega (arith, low, top)
+    let plan = c.args.plan.now in
+    let turn = group_turn (view plan) _ (c.into_iter-group-iterator.ensures.into_iter_gives ∙ c.iter-group-items.ensures) c.loop-group.yielded c.loop-group.group-iterator c.loop-group.yielded_by c.next.result c.next.new.self c.in-Some.group c.in-Some.is c.next.ensures.steps in
+    let n = length c.loop-group.yielded in
+    let rows = group_rows plan n c.in-Some.group c.height.result c.width.result c.part_rows-rows.result c.height.ensures c.width.ensures turn.1 c.part_rows-rows.ensures.value in
+    omega (arith, far plan n c.loop-group.start c.part_rows-rows.result c.in-Some.group c.loop-group.invariant.at rows turn)
 
-pub loop-number-preserved : goal.loop-number-preserved
-loop-number-preserved c =
-    let p = view c.args.plan.now in
-    let n = c.loop-number.number in
-    let found = group_found p n c.in-Some.group c.in-Some.ensures in
+pub loop-group-preserved : goal.loop-group-preserved
+loop-group-preserved c =
+    let plan = c.args.plan.now in
+    let p = view plan in
+    let gs = c.loop-group.yielded in
     let g = c.in-Some.group in
-    let rows = group_rows c.args.plan.now n g c.height.result c.width.result c.part_rows-rows.result c.height.ensures c.width.ensures found.1 c.part_rows-rows.ensures.value in
-    let few = and_parts (leb 1 c.args.plan.now.groups) (leb c.args.plan.now.groups 70) c.args.plan.now.groups_in in
-    let count : g.count ≡ key_count p n = ap (λ x. x.count) found.1 in
-    let section : Section = record { first = g.first; count = g.count; rows = c.part_rows-rows.result; start = c.loop-number.start } in
-    let same : section ≡ section_of p n = λ i. record { first = (found.1 i).first; count = (found.1 i).count; rows = rows i; start = c.loop-number.invariant.3 i } in (
-      length-set c.loop-number.all n section ∙ c.loop-number.invariant.0,
-      front_more p n c.loop-number.all section (omega (arith, c.loop-number.invariant.0, c.args.plan.now.room, view_groups c.args.plan.now, found.0, leb-true _ _ few.1)) same c.loop-number.invariant.1,
-      behind_less n c.loop-number.all section c.loop-number.invariant.2,
-      ap (λ x. x + g.count * c.part_rows-rows.result) c.loop-number.invariant.3 ∙ ap (λ x. start_of p n + x * c.part_rows-rows.result) count ∙ ap (λ x. start_of p n + key_count p n * x) rows ∙ sym (start_next p n),
-      more p n c.loop-number.start g.count c.part_rows-rows.result count c.part_rows-rows.ensures.few c.loop-number.invariant.4,
-    )
+    let turn = group_turn p _ (c.into_iter-group-iterator.ensures.into_iter_gives ∙ c.iter-group-items.ensures) gs c.loop-group.group-iterator c.loop-group.yielded_by c.next.result c.next.new.self g c.in-Some.is c.next.ensures.steps in
+    let n = length gs in
+    let rows = group_rows plan n g c.height.result c.width.result c.part_rows-rows.result c.height.ensures c.width.ensures turn.1 c.part_rows-rows.ensures.value in
+    let section : Section = record { first = g.first; count = g.count; rows = c.part_rows-rows.result; start = c.loop-group.start } in
+    let same : section ≡ section_of p n = λ i. record { first = (turn.1 i).first; count = (turn.1 i).count; rows = rows i; start = c.loop-group.invariant.at i } in
+    laid_more p n g.number _ c.loop-group.all c.loop-group.start section c.loop-group.invariant (ap (λ (x : Group). x.number) turn.1) (length-append gs (g ∷ [])) (omega (arith, turn.0, groups_few plan)) same
 
-pub returns : goal.returns
-returns c =
-    let p = view c.args.plan.now in
-    let n = c.loop-number.number in
-    let all : length p.masks ≡ n = view_groups c.args.plan.now ∙ omega arith in
-    let long = c.loop-number.invariant.0 in
-    let few = and_parts (leb 1 c.args.plan.now.groups) (leb c.args.plan.now.groups 70) c.args.plan.now.groups_in in
-    record {
-      owners = λ key. find_owner p c.loop-number.all 0 (length p.masks)
-          (λ j d l. c.loop-number.invariant.1 j d (omega (arith, all)) ∙ ap (section_of p) (omega arith))
-          (λ j d l m. c.loop-number.invariant.2 j d (omega (arith, all)) m)
-          (omega (arith, view_groups c.args.plan.now, long, leb-true _ _ few.1)) key;
-      places = places p (plan_ranges c.args.plan.now);
-    }
+pub returns-clause-owners : goal.returns-clause-owners
+returns-clause-owners c = λ key.
+    let plan = c.args.plan.now in
+    let p = view plan in
+    let n = length c.loop-group.yielded in
+    let all : n ≡ length p.masks = groups_end p _ (c.into_iter-group-iterator.ensures.into_iter_gives ∙ c.iter-group-items.ensures) c.loop-group.yielded c.loop-group.group-iterator c.loop-group.yielded_by c.next.result c.next.new.self c.in-None.is c.next.ensures.steps in
+    let laid = c.loop-group.invariant in
+    find_owner p c.loop-group.all 0 (length p.masks)
+    (λ j d l. laid.front j d (omega (arith, all)) ∙ ap (section_of p) (omega arith))
+    (λ j d l m. laid.behind j d (omega (arith, all)) m)
+    (omega (arith, laid.long, groups_few plan)) key
+
+pub returns-clause-places : goal.returns-clause-places
+returns-clause-places c = places (view c.args.plan.now) (plan_ranges c.args.plan.now)
