@@ -2,13 +2,11 @@
 #![tactic(auto)]
 
 mod bytes;
-mod identifier;
+mod fixed;
 mod origin;
-mod seed;
 mod sums;
 
 pub use bytes::{Row, put, put_row, row_at};
-pub use identifier::Identifier;
+pub use fixed::{Fixed, Identifier, Seed};
 pub use origin::Origin;
-pub use seed::Seed;
 pub use sums::{add_row, sum};

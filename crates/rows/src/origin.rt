@@ -1,6 +1,5 @@
 // What a tree is made from.
-use crate::identifier::Identifier;
-use crate::seed::Seed;
+use crate::fixed::{Identifier, Seed};
 
 // The identifier and the seed from which all rows of a tree come.
 #[derive(Clone, Copy)]
