@@ -86,6 +86,7 @@ fn theta<W: Word>(a: &[W; 25]) -> [W; 25]
     ]
 }
 
+// Each lane comes from another place, and is turned by an offset of its own.
 fn rho_pi<W: Word>(a: &[W; 25]) -> [W; 25]
     ensures { (i : ℕ) → i < W.count → map (W.at i) result ≡ pi_of (rho_of (map (W.at i) a.now)) }
 {

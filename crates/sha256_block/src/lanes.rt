@@ -56,8 +56,8 @@ fn parse(blocks: &[[u8; 64]; 8]) -> [u32x8; 64]
     ensures { (t i : ℕ) → t < 16 → i < 8 → slice_index (slice_index_or result t []) i ≡ word (slice_index_or blocks.now i []) t }
 {
     let mut words = [u32x8::splat(0); 64];
-    for t in 0..16 {
-        words[t] = gather(blocks, t);
+    for (t, word) in words[..16].iter_mut().enumerate() {
+        *word = gather(blocks, t);
     }
     words
 }

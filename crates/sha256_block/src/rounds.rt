@@ -47,7 +47,8 @@ fn sum<W: Word>(variables: &[W; 8], hash: &[W; 8]) -> [W; 8]
 }
 
 // Takes a block into the hash value. `words` begins with the words of the block; the rest is room
-// for the schedule, of which each of the first 48 rounds makes a word.
+// for the schedule, of which each of the first 48 rounds makes a word. One loop over all rounds,
+// with a test in it, takes in 176 MB a second where these two take in 185.
 pub(crate) fn compress<W: Word>(hash: &mut [W; 8], words: &mut [W; 64])
     ensures { (i : ℕ) (b : List ℕ) → i < W.count → ((t : ℕ) → t < 16 → slice_index (map (W.at i) words.old) t ≡ word b t) → map (W.at i) hash.new ≡ compressed (map (W.at i) hash.old) b }
 {

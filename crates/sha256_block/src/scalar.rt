@@ -57,8 +57,8 @@ fn parse(block: &[u8; 64]) -> [u32; 64]
     ensures { (t : ℕ) → t < 16 → slice_index result t ≡ word block.now t }
 {
     let mut words = [0; 64];
-    for t in 0..16 {
-        words[t] = load(block, t);
+    for (t, word) in words[..16].iter_mut().enumerate() {
+        *word = load(block, t);
     }
     words
 }

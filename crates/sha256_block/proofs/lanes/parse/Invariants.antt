@@ -3,4 +3,4 @@ use Rattle.sha256_block.specs.Fips180.{word}
 use Rattle.sha256_block.proofs.lanes.parse.Given as goal
 
 abbrev pub invariant-loop-t : goal.invariant-loop-t
-invariant-loop-t l = (length l.words ≡ 64) × ((k i : ℕ) → k < l.t → i < 8 → get_or (get_or l.words k []) i 0 ≡ word (get_or l.blocks i []) k)
+invariant-loop-t l = (length l.word-items ≡ 16) × ((k i : ℕ) → k < l.t → i < 8 → get_or (get_or l.word-items k []) i 0 ≡ word (get_or l.blocks i []) k)

@@ -3,4 +3,4 @@ use Rattle.sha256_block.specs.Fips180.{word}
 use Rattle.sha256_block.proofs.scalar.parse.Given as goal
 
 abbrev pub invariant-loop-t : goal.invariant-loop-t
-invariant-loop-t l = (length l.words ≡ 64) × ((k : ℕ) → k < l.t → get_or l.words k 0 ≡ word l.block k)
+invariant-loop-t l = (length l.word-items ≡ 16) × ((k : ℕ) → k < l.t → get_or l.word-items k 0 ≡ word l.block k)
