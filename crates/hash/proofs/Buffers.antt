@@ -1,7 +1,7 @@
 -- What a buffer of n bytes holds as bytes come in.
-use Rattle.std.proofs.Common.{◌≡◌, ℕ, ◌+◌, ◌-◌, ◌<◌, ◌≤◌, List, [], ◌∷◌, ◌++◌, length, take, drop, replicate, sym, refl, ap, ◌∙◌, arith}
-use Rattle.std.proofs.lemmas.List.{append-nil, append_assoc, length-append, length-take-le, take_at, take-append-drop, drop_all, drop_at, drop-replicate, length-replicate, replicate-append-replicate}
-use Rattle.hash.specs.Buffers.{written}
+use Rattle.std.proofs.Common.{◌≡◌, ℕ, ◌+◌, ◌-◌, ◌<◌, ◌≤◌, List, [], ◌∷◌, ◌++◌, length, take, drop, set, replicate, sym, ap, ◌∙◌, arith}
+use Rattle.std.proofs.lemmas.List.{append-nil, append_assoc, length-append, length-take-le, take_at, take-append-drop, drop_all, drop_at, drop-replicate, length-replicate, replicate-append-replicate, set_at}
+use Rattle.hash.specs.Buffers.{written, ended}
 use Rattle.hash.specs.Chaining.{link, chained}
 use Rattle.hash.proofs.Chaining.{chained_joined, chained_short, chained_full}
 
@@ -13,23 +13,37 @@ written_at p q r x f l e =
     ∙ ap (λ u. p ++ (x ++ drop (f + length x) u)) (sym (append_assoc p q r))
     ∙ ap (λ u. p ++ (x ++ u)) (drop_at (p ++ q) r (f + length x) lq)
 
--- a block of n bytes with t at its start, the byte m at `at`, and zeros
-abbrev pub marked : ℕ → ℕ → List ℕ → ℕ → List ℕ
-marked n m t at = t ++ (replicate (at - length t) 0 ++ (m ∷ replicate (n - 1 - at) 0))
-
-pub mark : (n m at : ℕ) (t b1 b2 : List ℕ) → length t ≤ at → at < n → b1 ≡ written (replicate n 0) 0 t → b2 ≡ written b1 at (m ∷ []) → b2 ≡ marked n m t at
-mark n m at t b1 b2 h k q1 q2 =
+-- a block of n zeros, with t written at its start and the byte m at `at`
+pub mark : (n m at : ℕ) (t b : List ℕ) → length t ≤ at → at < n → b ≡ written (replicate n 0) 0 t → set b at m ≡ t ++ (replicate (at - length t) 0 ++ (m ∷ replicate (n - 1 - at) 0))
+mark n m at t b h k q =
     let i : 0 + length t ≡ length t = omega arith in
     let z : List ℕ = replicate (at - length t) 0 in
     let r : List ℕ = replicate (n - 1 - at) 0 in
     let d : n - length t ≡ (at - length t) + (1 + (n - 1 - at)) = omega arith in
-    let lz : length (t ++ z) ≡ at = simp (length-append, length-replicate) (omega arith) in
-    let cut : b1 ≡ (t ++ z) ++ ((0 ∷ []) ++ r) =
-    q1 ∙ ap (λ u. t ++ drop u (replicate n 0)) i
+    let lz : length (t ++ replicate (at - length t) 0) ≡ at = simp (length-append, length-replicate) (omega arith) in
+    let cut : b ≡ (t ++ z) ++ (0 ∷ r) =
+    q ∙ ap (λ u. t ++ drop u (replicate n 0)) i
     ∙ ap (λ u. t ++ u) (drop-replicate (length t) n 0 ∙ ap (λ u. replicate u 0) d ∙ sym (replicate-append-replicate (at - length t) (1 + (n - 1 - at)) 0))
     ∙ ap (λ u. t ++ (z ++ u)) (sym (replicate-append-replicate 1 (n - 1 - at) 0))
-    ∙ sym (append_assoc t z ((0 ∷ []) ++ r)) in
-    q2 ∙ ap (λ u. written u at (m ∷ [])) cut ∙ written_at (t ++ z) (0 ∷ []) r (m ∷ []) at lz refl ∙ append_assoc t z (m ∷ r)
+    ∙ sym (append_assoc t z (0 ∷ r)) in
+    ap (λ u. set u at m) cut ∙ set_at (t ++ z) 0 r m at lz ∙ append_assoc t z (m ∷ r)
+
+-- where t ends at the mark
+pub ended_at : (n m at : ℕ) (t : List ℕ) → length t ≡ at → t ++ (replicate (at - length t) 0 ++ (m ∷ replicate (n - 1 - at) 0)) ≡ ended n m t
+ended_at n m at t l =
+    let none : at - length t ≡ 0 = omega arith in
+    ap (λ i. t ++ (replicate i 0 ++ (m ∷ replicate (n - 1 - at) 0))) none ∙ ap (λ i. t ++ (m ∷ replicate (n - 1 - i) 0)) (sym l)
+
+-- where x is written at the end of t, and ends at the mark
+pub ended_more : (n m at f : ℕ) (t x b : List ℕ) → length t ≡ f → f + length x ≡ at → b ≡ t ++ (replicate (at - length t) 0 ++ (m ∷ replicate (n - 1 - at) 0)) →
+    written b f x ≡ ended n m (t ++ x)
+ended_more n m at f t x b l e q =
+    let r : List ℕ = m ∷ replicate (n - 1 - at) 0 in
+    let le : at ≡ length (t ++ x) = sym (length-append t x ∙ omega arith) in
+    ap (λ u. written u f x) q
+    ∙ written_at t (replicate (at - length t) 0) r x f l (length-replicate (at - length t) 0 ∙ omega arith)
+    ∙ sym (append_assoc t x r)
+    ∙ ap (λ i. (t ++ x) ++ (m ∷ replicate (n - 1 - i) 0)) le
 
 -- the front of a buffer after a write at f
 pub front_after : (b x new : List ℕ) (f i : ℕ) → f ≤ length b → i ≡ f + length x → new ≡ written b f x → take i new ≡ take f b ++ x

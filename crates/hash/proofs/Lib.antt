@@ -1,4 +1,4 @@
+pub mod Arrays
 pub mod Buffers
 pub mod Chaining
-pub mod Fronts
 pub mod Masks

@@ -1,5 +1,5 @@
 -- The masked key as the pieces that the hash takes in.
-use Rattle.std.proofs.Common.{◌≡◌, ℕ, zero, suc, ◌+◌, ◌-◌, ◌≤◌, List, ◌∷◌, ◌++◌, map, length, take, replicate, sym, refl, ap, ◌∙◌, arith}
+use Rattle.std.proofs.Common.{◌≡◌, ℕ, zero, suc, ◌+◌, ◌-◌, ◌≤◌, List, ◌∷◌, ◌++◌, map, length, take, replicate, sym, refl, ap, ◌∙◌}
 use lib.Bits.{bit_xor}
 use Rattle.std.proofs.lemmas.List.{append-nil, append_assoc, map-append, take-replicate, replicate-append-replicate}
 use Rattle.hash.specs.Rfc2104.{masked}
@@ -15,11 +15,9 @@ begun x key n = map (λ b. bit_xor b x) key ++ replicate n x
 pub begun_none : (x : ℕ) (key : List ℕ) (n : ℕ) → n ≡ 0 → map (λ b. bit_xor b x) key ≡ begun x key n
 begun_none x key n e = sym (append-nil (map (λ b. bit_xor b x) key)) ∙ ap (begun x key) (sym e)
 
-pub begun_more : (x : ℕ) (key : List ℕ) (n m k : ℕ) → k ≤ 32 → m ≡ n + k → begun x key n ++ take (k - 0) (replicate 32 x) ≡ begun x key m
+pub begun_more : (x : ℕ) (key : List ℕ) (n m k : ℕ) → k ≤ 32 → m ≡ n + k → begun x key n ++ take k (replicate 32 x) ≡ begun x key m
 begun_more x key n m k h e =
-    let z : k - 0 ≡ k = omega arith in
-    ap (λ i. begun x key n ++ take i (replicate 32 x)) z
-    ∙ ap (λ l. begun x key n ++ l) (take-replicate k 32 x h)
+    ap (λ l. begun x key n ++ l) (take-replicate k 32 x h)
     ∙ append_assoc (map (λ b. bit_xor b x) key) (replicate n x) (replicate k x)
     ∙ ap (λ l. map (λ b. bit_xor b x) key ++ l) (replicate-append-replicate n k x)
     ∙ ap (begun x key) (sym e)

@@ -1,3 +1,4 @@
+pub mod Buffered
 pub mod Buffers
 pub mod Bytes
 pub mod Chaining

@@ -40,7 +40,7 @@ impl<H: Hash> HmacKey<H> {
         ensures keyed { (key : List ℕ) → Keyed H.Hash.first H.Hash.fed H.Hash.block key (H.Hash.state self.now.inner) (H.Hash.state self.now.outer) → (i : ℕ) → i < 8 → slice_index_or result i [] ≡ hmac_of H.Hash.hashed H.Hash.block key (take len (slice_index_or texts.now i [])) }
     {
         let digests = self.inner.each(texts, len);
-        self.outer.each(&all_widened(&digests), 32)
+        self.outer.each(&digests.map(widened), 32)
     }
 }
 
@@ -52,21 +52,11 @@ fn nested<H: Hash>(inner: H, outer: H, text: &[u8]) -> [u8; 32]
 }
 
 // A digest at the front of 64 bytes.
-fn widened(digest: &[u8; 32]) -> [u8; 64]
-    ensures { (result ≡ digest.now ++ replicate 32 0) × (length digest.now ≡ 32) }
+fn widened(digest: [u8; 32]) -> [u8; 64]
+    ensures { (result ≡ digest ++ replicate 32 0) × (length digest ≡ 32) }
 {
     let mut wide = [0u8; 64];
-    wide[0..32].copy_from_slice(digest);
-    wide
-}
-
-fn all_widened(digests: &[[u8; 32]; 8]) -> [[u8; 64]; 8]
-    ensures { (i : ℕ) → i < 8 → (slice_index_or result i [] ≡ slice_index_or digests.now i [] ++ replicate 32 0) × (length (slice_index_or digests.now i []) ≡ 32) }
-{
-    let mut wide = [[0u8; 64]; 8];
-    for i in 0..8 {
-        wide[i] = widened(&digests[i]);
-    }
+    wide[0..32].copy_from_slice(&digest);
     wide
 }
 
@@ -75,25 +65,14 @@ fn took_key<H: Hash>(key: &[u8; 32], mask: u8) -> H
     ensures { H.Hash.state result ≡ H.Hash.fed H.Hash.first (masked mask H.Hash.block key.now) }
 {
     let mut hash = H::start();
-    hash.feed(&masked_key(key, mask));
+    hash.feed(&key.map(|byte| byte ^ mask));
     let filler = [mask; 32];
-    let mut left = H::block_len() - 32;
-    while left > 0 {
-        let count = left.min(32);
-        hash.feed(&filler[0..count]);
-        left -= count;
+    let left = H::block_len() - 32;
+    for _ in 0..left / 32 {
+        hash.feed(&filler);
     }
+    hash.feed(&filler[..left % 32]);
     hash
-}
-
-fn masked_key(key: &[u8; 32], mask: u8) -> [u8; 32]
-    ensures { result ≡ map (λ b. bit_xor b mask) key.now }
-{
-    let mut masked = *key;
-    for byte in masked.iter_mut() {
-        *byte ^= mask;
-    }
-    masked
 }
 
 /// The HMAC of a text under a key.

@@ -1,9 +1,12 @@
 //! An incremental hash of 32 bytes, and HMAC over any such hash.
 #![tactic(auto)]
 
-ghost use Rattle.std.specs.Prelude.{◌≡◌, ℕ, ◌^◌, ◌<◌, ◌≤◌, List, [], ◌++◌, length, take, slice_index_or};
+ghost use Rattle.std.specs.Prelude.{◌≡◌, ℕ, ◌^◌, ◌<◌, ◌≤◌, min, List, [], ◌++◌, length, take, slice_index_or};
 ghost use Rattle.hash.specs.Bytes.{Bytes};
 
+use std::array;
+
+pub mod blocks;
 pub mod hmac;
 
 /// A hash with a digest of 32 bytes.
@@ -62,13 +65,16 @@ pub trait Hash: Copy {
     fn one_by_one(&self, tails: &[[u8; 64]; 8], len: usize) -> [[u8; 32]; 8]
         ensures { (i : ℕ) → i < 8 → slice_index_or result i [] ≡ closed (fed (state self.now) (take len (slice_index_or tails.now i []))) }
     {
-        let mut digests = [[0u8; 32]; 8];
-        for i in 0..8 {
-            let mut message = *self;
-            message.feed(front(&tails[i], len));
-            digests[i] = message.close();
-        }
-        digests
+        array::from_fn(
+            |i| -> [u8; 32]
+                requires { i < 8 }
+                ensures { result ≡ closed (fed (state self.entry.now) (take len (slice_index_or tails.entry.now i []))) }
+            {
+                let mut message = *self;
+                message.feed(front(&tails[i], len));
+                message.close()
+            },
+        )
     }
 
     ghost none: { (s : State) → fed s [] ≡ s };
@@ -91,9 +97,10 @@ pub trait Hash: Copy {
 
 // The first `len` bytes of a tail, or all of it.
 fn front(tail: &[u8; 64], len: usize) -> &[u8]
-    ensures { result.now ≡ take len tail.now }
+    ensures bytes { result.now ≡ take len tail.now }
+    ensures count { length result.now ≡ min len 64 }
 {
-    if len < 64 { &tail[0..len] } else { tail }
+    &tail[..len.min(64)]
 }
 
 // The digest of a message of which `hash` has taken in all but `rest`.

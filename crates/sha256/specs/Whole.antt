@@ -1,19 +1,15 @@
 -- The hash of a whole message is what the state closes to.
-use Rattle.std.specs.Prelude.{◌≡◌, ℕ, zero, suc, ◌+◌, ◌-◌, ◌*◌, ◌/◌, ◌%◌, ◌^◌, List, [], ◌∷◌, ◌++◌, length, drop, replicate, refl}
+use Rattle.std.specs.Prelude.{◌≡◌, ℕ, ◌+◌, ◌-◌, ◌*◌, ◌/◌, ◌%◌, ◌^◌, List, [], ◌∷◌, ◌++◌, length, replicate, refl}
 use Rattle.std.proofs.Common.{sym, ap, ◌∙◌, arith}
-use Rattle.std.proofs.lemmas.List.{length-append, length-drop, length-replicate}
+use Rattle.std.proofs.lemmas.List.{length-append, length-replicate}
 use Rattle.hash.specs.Chaining.{link, over, chained}
-use Rattle.hash.proofs.Chaining.{Blocks, chained_joined, chained_over}
+use Rattle.hash.proofs.Chaining.{chained_padded}
 use Rattle.sha256_block.specs.Fips180.{compressed}
 use Rattle.sha256.specs.Fips180.{initial, padding, padded, zeros, length64, bytes_of, sha256}
 use Rattle.sha256.specs.State.{State, mk, first, fed, closed}
 use Rattle.sha256.specs.Feeding.{fed_any}
 
-whole_blocks : (k : ℕ) (m : List ℕ) → length m ≡ 64 * k → Blocks 64 compressed k m
-whole_blocks zero m e = omega arith
-whole_blocks (suc k) m e = (omega arith, whole_blocks k (drop 64 m) (simp length-drop (omega arith)))
-
-padded_length : (m : List ℕ) → length (padded m) ≡ 64 * (length (padded m) / 64)
+padded_length : (m : List ℕ) → length (padded m) ≡ length (padded m) / 64 * 64
 padded_length m =
     let n = length m in
     let l : length (padded m) ≡ length m + (1 + ((119 - length m % 64) % 64 + 8)) = simp (length-append, length-replicate) (omega arith) in
@@ -36,12 +32,10 @@ sha256_is m = refl
 
 pub whole : (m : List ℕ) → sha256 m ≡ closed (fed first m)
 whole m =
-    let k = length (padded m) / 64 in
     let s = link initial [] in
     sha256_is m
     ∙ ap bytes_of
-    (sym (chained_over 64 compressed k (padded m) initial (omega arith) (whole_blocks k (padded m) (padded_length m)))
-    ∙ ap (λ u. u.value) (sym (chained_joined 64 compressed s m (padding (length m))))
+    (chained_padded 64 compressed m (padding (length m)) initial (omega arith) (padded_length m)
     ∙ ap (λ p. (chained 64 compressed (chained 64 compressed s m) p).value) (sym (padding_mod (length m))))
     ∙ sym (closed_is (mk (chained 64 compressed s m) ((0 + length m) % 2 ^ 64)))
     ∙ ap closed (sym (fed_any m s 0 (omega arith)))

@@ -4,10 +4,10 @@
 ghost use Rattle.std.specs.Prelude.{◌≡◌};
 ghost use Rattle.sha256.specs.Fips180.{sha256 as standard};
 
-mod buffer;
-mod digest;
 mod eight;
 mod hasher;
+mod padding;
+mod words;
 
 pub use hasher::Hasher;
 

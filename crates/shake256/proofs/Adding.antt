@@ -1,10 +1,27 @@
 -- A block added to the state.
-use Rattle.std.proofs.Common.{◌≡◌, ℕ, ◌+◌, ◌-◌, ◌*◌, ◌<◌, ◌≤◌, List, ◌++◌, length, get_or, replicate, sym, ap, ◌∙◌, inl, inr, arith}
+use Rattle.std.proofs.Common.{◌≡◌, ℕ, ◌+◌, ◌-◌, ◌*◌, ◌<◌, ◌≤◌, List, ◌++◌, length, get_or, take, drop, replicate, sym, ap, ◌∙◌, inl, inr, arith}
 use lib.Bits.{bit_xor, xor_zero_r}
 use Rattle.std.proofs.lemmas.List.FromFn.{fill_by_all}
-use Rattle.std.proofs.lemmas.List.{get_or_append_left, get_or-append_right, get_or-replicate}
+use Rattle.std.proofs.lemmas.List.{get_or_append_left, get_or-append_right, get_or-replicate, get_or-take, get_or-drop}
 use Rattle.std.proofs.lemmas.Bool.{cases_lt}
 use Rattle.shake256.specs.Fips202.{word, added}
+
+byte_at : (b : List ℕ) (t j i : ℕ) → j < 8 → t * 8 + j ≡ i → get_or (take 8 (drop (t * 8) b)) j 0 ≡ get_or b i 0
+byte_at b t j i h e = get_or-take 8 (drop (t * 8) b) j 0 h ∙ get_or-drop (t * 8) b j 0 ∙ ap (λ k. get_or b k 0) e
+
+-- the t-th eight bytes of a block
+pub word_at : (b : List ℕ) (t : ℕ) → word (take 8 (drop (t * 8) b)) 0 ≡ word b t
+word_at b t =
+    simp (
+      byte_at b t 0 (8 * t) (omega arith) (omega arith),
+      byte_at b t 1 (8 * t + 1) (omega arith) (omega arith),
+      byte_at b t 2 (8 * t + 2) (omega arith) (omega arith),
+      byte_at b t 3 (8 * t + 3) (omega arith) (omega arith),
+      byte_at b t 4 (8 * t + 4) (omega arith) (omega arith),
+      byte_at b t 5 (8 * t + 5) (omega arith) (omega arith),
+      byte_at b t 6 (8 * t + 6) (omega arith) (omega arith),
+      byte_at b t 7 (8 * t + 7) (omega arith) (omega arith),
+    )
 
 word_front : (b z : List ℕ) (t : ℕ) → length b ≡ 136 → t < 17 → word (b ++ z) t ≡ word b t
 word_front b z t l h =

@@ -1,11 +1,10 @@
 -- The last block.
-use Rattle.std.proofs.Common.{◌≡◌, ℕ, ◌+◌, ◌-◌, ◌%◌, ◌<◌, ◌≤◌, List, [], ◌∷◌, ◌++◌, length, get_or, set, replicate, sym, refl, ap, ◌∙◌, inl, inr, arith, eq-eqb, ne_eqb}
+use Rattle.std.proofs.Common.{◌≡◌, ℕ, ◌+◌, ◌-◌, ◌%◌, ◌<◌, List, [], ◌∷◌, ◌++◌, length, get_or, set, replicate, sym, refl, ap, ◌∙◌, inl, inr, arith, eq-eqb, ne_eqb}
 use lib.Bits.{bit_xor}
 use Rattle.std.proofs.lemmas.List.{append_assoc, length-append, length-replicate, replicate-append-replicate, get_or_at, set_at}
 use Rattle.std.proofs.lemmas.Bool.{cases_eq}
-use Rattle.hash.specs.Buffers.{written}
+use Rattle.hash.specs.Buffers.{ended}
 use Rattle.hash.specs.Chaining.{Chain, link, chained}
-use Rattle.hash.proofs.Buffers.{marked, written_at}
 use Rattle.hash.proofs.Chaining.{chained_short, chained_full}
 use Rattle.shake256.specs.Fips202.{absorbed, padding, squeezed}
 use Rattle.shake256.specs.State.{fed, closed}
@@ -25,8 +24,8 @@ padding_length n h = elim (cases_eq n 135) [
 ]
 
 -- the last bit of the padding is added to the last byte of the block
-ended : (p q : List ℕ) (x : ℕ) → length p ≡ 135 → q ≡ p ++ x ∷ [] → set q 135 (bit_xor (get_or q 135 0) 0x80) ≡ p ++ bit_xor x 0x80 ∷ []
-ended p q x l e =
+ended_by : (p q : List ℕ) (x : ℕ) → length p ≡ 135 → q ≡ p ++ x ∷ [] → set q 135 (bit_xor (get_or q 135 0) 0x80) ≡ p ++ bit_xor x 0x80 ∷ []
+ended_by p q x l e =
     ap (λ q. set q 135 (bit_xor (get_or q 135 0) 0x80)) e
     ∙ set_at p x [] (bit_xor (get_or (p ++ x ∷ []) 135 0) 0x80) 135 l
     ∙ ap (λ y. p ++ bit_xor y 0x80 ∷ []) (get_or_at p x [] 0 135 l)
@@ -35,7 +34,7 @@ padded_block : (u b : List ℕ) (f : ℕ) → f < 136 → length u ≡ f → b �
 padded_block u b f h l q = elim (cases_eq f 135) [
   | inl e ↦
       let z : 135 - f ≡ 0 = omega arith in
-      ended u b 0x1f (l ∙ e) (q ∙ ap (λ i. u ++ (0x1f ∷ replicate i 0)) z) ∙ ap (λ p. u ++ p) (sym (padding_full f e))
+      ended_by u b 0x1f (l ∙ e) (q ∙ ap (λ i. u ++ (0x1f ∷ replicate i 0)) z) ∙ ap (λ p. u ++ p) (sym (padding_full f e))
   | inr n ↦
       let lt : f < 135 = omega arith in
       let z : 134 - f + 1 ≡ 135 - f = omega arith in
@@ -43,44 +42,27 @@ padded_block u b f h l q = elim (cases_eq f 135) [
       let cut : b ≡ (u ++ (0x1f ∷ replicate (134 - f) 0)) ++ 0 ∷ [] =
       q ∙ ap (λ r. u ++ (0x1f ∷ r)) (ap (λ i. replicate i 0) (sym z) ∙ sym (replicate-append-replicate (134 - f) 1 0))
       ∙ sym (append_assoc u (0x1f ∷ replicate (134 - f) 0) (0 ∷ [])) in
-      ended (u ++ (0x1f ∷ replicate (134 - f) 0)) b 0 lp cut
+      ended_by (u ++ (0x1f ∷ replicate (134 - f) 0)) b 0 lp cut
       ∙ append_assoc u (0x1f ∷ replicate (134 - f) 0) (0x80 ∷ [])
       ∙ ap (λ p. u ++ p) (sym (padding_long f lt))
 ]
 
--- the block that is framed for a message that ends at `at`: its front, room for what is to come, and the padding
-pub framed : (t b : List ℕ) (at : ℕ) → length t ≤ at → at < 136 → b ≡ marked 136 0x1f t at →
-    set b 135 (bit_xor (get_or b 135 0) 0x80) ≡ t ++ (replicate (at - length t) 0 ++ padding at)
-framed t b at e h q =
-    let z : List ℕ = replicate (at - length t) 0 in
-    let l : length (t ++ replicate (at - length t) 0) ≡ at = simp (length-append, length-replicate) (omega arith) in
-    padded_block (t ++ z) b at h l (q ∙ sym (append_assoc t z (0x1f ∷ replicate (135 - at) 0))) ∙ append_assoc t z (padding at)
-
--- the framed block with nothing to come, and with x written where there is room for it
-pub framed_none : (t b : List ℕ) (at : ℕ) → length t ≡ at → b ≡ t ++ (replicate (at - length t) 0 ++ padding at) → b ≡ t ++ padding at
-framed_none t b at e q =
-    let z : at - length t ≡ 0 = omega arith in
-    q ∙ ap (λ u. t ++ (replicate u 0 ++ padding at)) z
-
-pub framed_more : (t x b : List ℕ) (at f : ℕ) → length t ≡ f → f + length x ≡ at → b ≡ t ++ (replicate (at - length t) 0 ++ padding at) → written b f x ≡ t ++ (x ++ padding at)
-framed_more t x b at f l e q =
-    ap (λ u. written u f x) q ∙ written_at t (replicate (at - length t) 0) (padding at) x f l (length-replicate (at - length t) 0 ∙ omega arith)
+-- the last block of a message
+pub last : (t b : List ℕ) → length t < 136 → b ≡ ended 136 0x1f t → set b 135 (bit_xor (get_or b 135 0) 0x80) ≡ t ++ padding (length t)
+last t b h q = padded_block t b (length t) h refl q
 
 closed_is : (s : Chain) → closed s ≡ squeezed (chained 136 absorbed s (padding (length s.tail))).value
 unfolding closed
 closed_is s = refl
 
 -- a message that is all there
-pub one_block : (v t : List ℕ) (f : ℕ) → length t ≡ f → f < 136 → closed (link v t) ≡ squeezed (absorbed v (t ++ padding f))
-one_block v t f l h =
+pub one_block : (v t : List ℕ) → length t < 136 → closed (link v t) ≡ squeezed (absorbed v (t ++ padding (length t)))
+one_block v t h =
+    let f = length t in
     let lp = padding_length f h in
     closed_is (link v t)
-    ∙ ap (λ n. squeezed (chained 136 absorbed (link v t) (padding n)).value) l
     ∙ ap (λ s. squeezed s.value) (chained_full 136 absorbed (padding f) v t (omega (arith, lp)) (omega (arith, lp)))
 
--- a message that ends within the block, where x is still to come
-pub one_block_more : (v t x : List ℕ) (at : ℕ) → length t + length x ≡ at → at < 136 → closed (fed (link v t) x) ≡ squeezed (absorbed v (t ++ (x ++ padding at)))
-one_block_more v t x at l h =
-    ap closed (chained_short 136 absorbed x v t (omega arith))
-    ∙ one_block v (t ++ x) at (length-append t x ∙ l) h
-    ∙ ap (λ u. squeezed (absorbed v u)) (append_assoc t x (padding at))
+-- bytes that leave the block open, taken in later
+pub later : (v t x : List ℕ) → length t + length x < 136 → closed (fed (link v t) x) ≡ closed (link v (t ++ x))
+later v t x h = ap closed (chained_short 136 absorbed x v t h)

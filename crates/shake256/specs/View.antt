@@ -1,7 +1,7 @@
 -- The state that a value of the code stands for.
-use Rattle.std.specs.Prelude.{◌%◌, take}
-use Rattle.hash.specs.Chaining.{Chain, link}
+use Rattle.hash.specs.Buffered.{held}
+use Rattle.hash.specs.Chaining.{Chain}
 use Rattle.shake256.specs.declared.hasher.Hasher.{Hasher}
 
 abbrev pub viewed : Hasher → Chain
-viewed s = link s.lanes (take (s.filled % 136) s.buffer)
+viewed s = held (λ l. l.0) s.message

@@ -1,16 +1,12 @@
 -- The hash of a whole message is what the state closes to.
-use Rattle.std.specs.Prelude.{◌≡◌, ℕ, zero, suc, ◌+◌, ◌-◌, ◌*◌, ◌/◌, ◌%◌, ◌<◌, cond, List, [], ◌∷◌, ◌++◌, length, drop, replicate, ◌==◌, refl}
+use Rattle.std.specs.Prelude.{◌≡◌, ℕ, ◌+◌, ◌-◌, ◌*◌, ◌/◌, ◌%◌, ◌<◌, cond, List, [], ◌∷◌, ◌++◌, length, replicate, ◌==◌, refl}
 use Rattle.std.proofs.Common.{sym, ap, ◌∙◌, inl, inr, arith, eq-eqb, ne_eqb}
-use Rattle.std.proofs.lemmas.List.{length-append, length-drop, length_push, length-replicate}
+use Rattle.std.proofs.lemmas.List.{length-append, length-replicate}
 use Rattle.std.proofs.lemmas.Bool.{cases_eq}
-use Rattle.hash.specs.Chaining.{Chain, over, stepped, chained}
-use Rattle.hash.proofs.Chaining.{Blocks, chained_joined, chained_over}
+use Rattle.hash.specs.Chaining.{Chain, over, chained}
+use Rattle.hash.proofs.Chaining.{chained_tail, chained_padded}
 use Rattle.shake256.specs.Fips202.{absorbed, initial, padding, padded, squeezed, shake256}
 use Rattle.shake256.specs.State.{first, fed, closed}
-
-whole_blocks : (k : ℕ) (m : List ℕ) → length m ≡ 136 * k → Blocks 136 absorbed k m
-whole_blocks zero m e = omega arith
-whole_blocks (suc k) m e = (omega arith, whole_blocks k (drop 136 m) (simp length-drop (omega arith)))
 
 -- the padding by the length modulo the rate
 abbrev padding_by : ℕ → List ℕ
@@ -22,26 +18,11 @@ padding_length r h = elim (cases_eq r 135) [
   | inr k ↦ rw (ne_eqb r 135 k) (simp (length-append, length-replicate) (omega arith))
 ]
 
-padded_length : (m : List ℕ) → length (padded m) ≡ 136 * (length (padded m) / 136)
+padded_length : (m : List ℕ) → length (padded m) ≡ length (padded m) / 136 * 136
 padded_length m =
     let l = length-append m (padding (length m)) in
     let p : length m % 136 + length (padding (length m)) ≡ 136 = padding_length (length m % 136) (omega arith) in
     omega arith
-
--- what the open block holds, modulo the rate
-stepped_tail : (s : Chain) (b : ℕ) → length (stepped 136 absorbed s b).tail % 136 ≡ (length s.tail + 1) % 136
-unfolding stepped
-stepped_tail s b = elim (cases_eq (length s.tail + 1) 136) [
-  | inl e ↦ rw (eq-eqb (length s.tail + 1) 136 e) (omega arith)
-  | inr k ↦ rw (ne_eqb (length s.tail + 1) 136 k) (let l = length_push s.tail b in omega arith)
-]
-
-chained_tail : (m : List ℕ) (s : Chain) → length (chained 136 absorbed s m).tail % 136 ≡ (length s.tail + length m) % 136
-unfolding chained
-chained_tail [] s = omega arith
-chained_tail (b ∷ m) s =
-    let e = stepped_tail s b in
-    chained_tail m (stepped 136 absorbed s b) ∙ omega arith
 
 closed_is : (s : Chain) → closed s ≡ squeezed (chained 136 absorbed s (padding (length s.tail))).value
 unfolding closed
@@ -53,12 +34,8 @@ shake256_is m = refl
 
 pub whole : (m : List ℕ) → shake256 m ≡ closed (fed first m)
 whole m =
-    let k = length (padded m) / 136 in
     let s = chained 136 absorbed first m in
-    let r : length m % 136 ≡ length (chained 136 absorbed first m).tail % 136 = omega (arith, chained_tail m first) in
+    let r : length m % 136 ≡ length (chained 136 absorbed first m).tail % 136 = omega (arith, chained_tail 136 absorbed m first (omega arith)) in
     shake256_is m
-    ∙ ap squeezed
-    (sym (chained_over 136 absorbed k (padded m) initial (omega arith) (whole_blocks k (padded m) (padded_length m)))
-    ∙ ap (λ u. u.value) (sym (chained_joined 136 absorbed first m (padding (length m))))
-    ∙ ap (λ r. (chained 136 absorbed s (padding_by r)).value) r)
+    ∙ ap squeezed (chained_padded 136 absorbed m (padding (length m)) initial (omega arith) (padded_length m) ∙ ap (λ r. (chained 136 absorbed s (padding_by r)).value) r)
     ∙ sym (closed_is s)

@@ -5,17 +5,16 @@ ghost use Rattle.shake256.specs.State.{first, fed, closed};
 ghost use Rattle.shake256.specs.View.{viewed};
 ghost use Rattle.shake256.specs.Laws.{none_law, joined_law, whole_law, long_law, bytes_law, wide_law, ots_law, tree_law};
 
-use crate::buffer::{frame, leaves_open, put, take_blocks};
+use crate::padding::add_last_bit;
 use crate::pairs::end_eight;
-use crate::sponge::{absorb, squeeze};
+use crate::state::{Lanes, squeeze};
 use hash::Hash;
+use hash::blocks::{Buffered, Chaining};
 
-/// The state after the whole blocks, and the block that is not whole: the first `filled % 136` bytes of the buffer.
+/// The state after the whole blocks, with the block that is not whole.
 #[derive(Clone, Copy)]
 pub struct Hasher {
-    lanes: [u64; 25],
-    buffer: [u8; 136],
-    filled: usize,
+    message: Buffered<Lanes, 136>,
 }
 
 impl Hash for Hasher {
@@ -67,42 +66,26 @@ impl Hash for Hasher {
 
     fn start() -> Hasher {
         Hasher {
-            lanes: [0; 25],
-            buffer: [0; 136],
-            filled: 0,
+            message: Buffered::new(Lanes([0; 25])),
         }
     }
 
     fn feed(&mut self, bytes: &[u8]) {
-        let filled = self.filled % 136;
-        if leaves_open(filled, bytes.len()) {
-            put(&mut self.buffer, filled, bytes);
-            self.filled = filled + bytes.len();
-            return;
-        }
-        let (front, back) = bytes.split_at(136 - filled);
-        put(&mut self.buffer, filled, front);
-        absorb(&mut self.lanes, &self.buffer);
-        let rest = take_blocks(&mut self.lanes, back);
-        put(&mut self.buffer, 0, rest);
-        self.filled = rest.len();
+        self.message.feed(bytes);
     }
 
     fn close(self) -> [u8; 32] {
-        let filled = self.filled % 136;
-        let block = frame(&self.buffer[0..filled], filled);
-        let mut lanes = self.lanes;
-        absorb(&mut lanes, &block);
-        squeeze(&[lanes[0], lanes[1], lanes[2], lanes[3]])
+        let mut block = self.message.ended(0x1f);
+        add_last_bit(&mut block);
+        let mut lanes = self.message.chain;
+        lanes.take_in(&block);
+        squeeze(&[lanes.0[0], lanes.0[1], lanes.0[2], lanes.0[3]])
     }
 
     fn each(&self, tails: &[[u8; 64]; 8], len: usize) -> [[u8; 32]; 8] {
-        let filled = self.filled % 136;
-        let count = len.min(64);
-        if !leaves_open(filled, count) {
+        let Some(lasts) = self.message.ended_each(tails, len, 0x1f, 0) else {
             return self.one_by_one(tails, len);
-        }
-        let block = frame(&self.buffer[0..filled], filled + count);
-        end_eight(&self.lanes, &block, filled, tails, count)
+        };
+        end_eight(&self.message.chain.0, &lasts)
     }
 }

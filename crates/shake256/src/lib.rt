@@ -4,10 +4,10 @@
 ghost use Rattle.std.specs.Prelude.{◌≡◌};
 ghost use Rattle.shake256.specs.Fips202.{shake256 as standard};
 
-mod buffer;
 mod hasher;
+mod padding;
 mod pairs;
-mod sponge;
+mod state;
 
 pub use hasher::Hasher;
 

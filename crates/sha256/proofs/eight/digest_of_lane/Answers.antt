@@ -1,23 +1,18 @@
-use Rattle.std.proofs.Common.{◌≡◌, ℕ, ◌<◌, List, [], length, get_or, sym, refl, ap, ◌∙◌, arith, rules}
+use Rattle.std.proofs.Common.{◌≡◌, ℕ, get_or, [], sym, ap, ◌∙◌, arith, rules}
+use Rattle.std.proofs.lemmas.List.FromFn.{fill_by_all}
+use Rattle.hash.proofs.Arrays.{made}
 use Rattle.simd_lanes.specs.Lane.{lane}
-use Rattle.simd_lanes.proofs.Ops.{get_or_lane, same}
+use Rattle.simd_lanes.proofs.Ops.{length_lane, get_or_lane}
 use Rattle.sha256.specs.Fips180.{bytes_of}
 use Rattle.sha256.proofs.eight.digest_of_lane.Goals as goal
 
 pub returns : goal.returns
 returns c =
-    let i = c.args.i in
     let hs = c.args.hash.now in
-    let l : length c.args.hash.now ≡ 8 = search rules in
-    let at : (k : ℕ) → k < 8 → get_or (get_or c.args.hash.now k []) c.args.i 0 ≡ get_or (lane c.args.i c.args.hash.now) k 0 = λ k h. sym (get_or_lane i hs k (omega arith)) in
-    let nil : ◌≡◌ {A = List ℕ} [] [] = refl in
+    let i = c.args.i in
+    let f : ℕ → ℕ = λ k. get_or (get_or hs k []) i 0 in
+    let each = made _ 8 (λ k r. r ≡ get_or (get_or hs k []) i 0) _ (λ k r q l called. search (rules, called.met)) c.from_fn.result c.from_fn.ensures.items in
     c.digest.ensures
     ∙ ap bytes_of
-    (same (at 0 (omega arith))
-    (same (at 1 (omega arith))
-    (same (at 2 (omega arith))
-    (same (at 3 (omega arith))
-    (same (at 4 (omega arith))
-    (same (at 5 (omega arith))
-    (same (at 6 (omega arith))
-    (same (at 7 (omega arith)) nil))))))))
+    (fill_by_all f c.from_fn.result 8 0 c.from_fn.ensures.items.long (λ k h. each k 0 h)
+    ∙ sym (fill_by_all f (lane i hs) 8 0 (length_lane i hs ∙ c.told-hash) (λ k h. get_or_lane i hs k (omega arith))))

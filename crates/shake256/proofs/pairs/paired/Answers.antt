@@ -1,21 +1,14 @@
-use Rattle.std.proofs.Common.{◌≡◌, get_or, arith, rules}
-use Rattle.hash.proofs.Fronts.{below_set}
+use Rattle.std.proofs.Common.{◌≡◌, [], ◌∷◌, get_or, ap, rules}
+use Rattle.hash.proofs.Arrays.{made}
 use Rattle.shake256.proofs.Lanes.{lane_is}
 use Rattle.shake256.proofs.pairs.paired.Goals as goal
 
-pub loop-t-init : goal.loop-t-init
-loop-t-init c = (search rules, λ k h. absurd (omega arith))
-
-pub loop-t-preserved : goal.loop-t-preserved
-loop-t-preserved c = (
-  search rules,
-  below_set (λ k v. (get_or v 0 0 ≡ get_or c.args.p.now k 0) × (get_or v 1 0 ≡ get_or c.args.q.now k 0))
-      c.loop-t.lanes c.loop-t.t c.both.result (omega arith) c.loop-t.invariant.1 c.both.ensures,
-)
-
 pub returns : goal.returns
 returns c =
+    let p = c.args.p.now in
+    let q = c.args.q.now in
+    let each = made _ 25 (λ k r. r ≡ get_or p k 0 ∷ get_or q k 0 ∷ []) _ (λ k r q l called. search rules) c.from_fn.result c.from_fn.ensures.items in
     record {
-      left = lane_is 0 c.loop-t.lanes c.args.p.now (search rules) (search rules) (λ k h. (c.loop-t.invariant.1 k (omega arith)).0);
-      right = lane_is 1 c.loop-t.lanes c.args.q.now (search rules) (search rules) (λ k h. (c.loop-t.invariant.1 k (omega arith)).1);
+      left = lane_is 0 c.from_fn.result p c.from_fn.ensures.items.long (search rules) (λ k h. ap (λ v. get_or v 0 0) (each k [] h));
+      right = lane_is 1 c.from_fn.result q c.from_fn.ensures.items.long (search rules) (λ k h. ap (λ v. get_or v 1 0) (each k [] h));
     }

@@ -1,25 +1,31 @@
-use Rattle.std.proofs.Common.{◌≡◌, ◌+◌, ◌-◌, ◌%◌, ◌^◌, ◌<◌, [], ◌++◌, length, get_or, take, sym, ap, ◌∙◌, arith, rules, ltb-true}
-use native.Mathlib.Nat.{sub-zero}
-use Rattle.std.proofs.lemmas.List.{length-take-le}
+use Rattle.std.proofs.Common.{◌≡◌, ◌+◌, ◌*◌, ◌%◌, ◌^◌, ◌<◌, min, [], ◌++◌, length, get_or, take, refl, sym, ap, ◌∙◌, arith, rules}
+use Rattle.std.proofs.lemmas.List.{length-append, length-take-le}
+use Rattle.hash.specs.Chaining.{link}
 use Rattle.sha256_block.specs.Fips180.{compressed}
-use Rattle.sha256.specs.Fips180.{bytes_of, padding}
-use Rattle.sha256.proofs.Ending.{one_block_more, framed, framed_more}
+use Rattle.sha256.specs.Fips180.{length64, bytes_of}
+use Rattle.sha256.specs.State.{mk, closed}
+use Rattle.sha256.proofs.Ending.{later, last, one_block}
 use Rattle.sha256.proofs.hasher.HasherHash.each.Goals as goal
 
 pub returns : goal.returns
 returns c i h =
+    let s = c.args.self.now.message in
     let n = c.args.self.now.count in
-    let v = c.args.self.now.words in
-    let t = take (n % 64) c.args.self.now.buffer in
+    let v = s.chain.0 in
+    let t = take s.filled s.buffer in
     let x = take c.args.len (get_or c.args.tails.now i []) in
     let m = (n + c.args.len) % 2 ^ 64 in
-    let room : c.args.len < 56 - c.args.self.now.count % 64 = ltb-true c.args.len (56 - n % 64) (sym c.ends_in_block.ensures ∙ c.if-not-ends_in_block.false) in
-    let lt : length (take (c.args.self.now.count % 64) c.args.self.now.buffer) ≡ c.args.self.now.count % 64 = length-take-le (n % 64) c.args.self.now.buffer (search rules) in
-    let lw : length (get_or c.args.tails.now i []) ≡ 64 = (c.end_eight.ensures i h).1 in
-    let lx : length (take c.args.len (get_or c.args.tails.now i [])) ≡ c.args.len = length-take-le c.args.len (get_or c.args.tails.now i []) (omega arith) in
-    let f = framed t c.marked-block.result c.put.new.block m (n % 64 + c.args.len) (omega arith) (omega arith) (omega arith)
-    (rw sub-zero at c.marked-block.ensures) (rw c.bit_length.ensures at c.put.ensures) in
-    (c.end_eight.ensures i h).0
-    ∙ ap (λ u. bytes_of (compressed v u)) (framed_more t x c.put.new.block m (n % 64 + c.args.len) (n % 64) lt (omega arith) f)
-    ∙ ap (λ u. bytes_of (compressed v (t ++ (x ++ padding ((n + u) % 2 ^ 64))))) (sym lx)
-    ∙ sym (one_block_more v t x n (search rules) lt (omega arith))
+    let b = get_or c.all_with_length-blocks.result i [] in
+    let block = c.in-Some.ensures.ends i h in
+    let whole = s.whole in
+    let inside = s.open in
+    let counted = c.args.self.now.counted in
+    let lt : length (take c.args.self.now.message.filled c.args.self.now.message.buffer) ≡ c.args.self.now.message.filled = length-take-le s.filled s.buffer (omega arith) in
+    let room : length (take c.args.self.now.message.filled c.args.self.now.message.buffer) + min c.args.len 64 + 8 < 64 = c.in-Some.ensures.room.0 refl in
+    let lx : length (take c.args.len (get_or c.args.tails.now i [])) ≡ c.args.len = block.1 ∙ omega arith in
+    let lm : length (take c.args.self.now.message.filled c.args.self.now.message.buffer ++ take c.args.len (get_or c.args.tails.now i [])) ≡ (c.args.self.now.count + c.args.len) % 2 ^ 64 % 64 = length-append t x ∙ omega arith in
+    c.end_eight.ensures i h
+    ∙ ap (λ u. bytes_of (compressed v u)) (last (t ++ x) b m lm (omega arith) (c.all_with_length-blocks.ensures i h ∙ ap (λ u. take 56 u ++ length64 (m * 8 % 2 ^ 64)) block.0))
+    ∙ sym (one_block v (t ++ x) m lm (omega arith))
+    ∙ ap (λ u. closed (mk (link v (t ++ x)) ((n + u) % 2 ^ 64))) (sym lx)
+    ∙ sym (later v t x n (search rules) (omega arith))
