@@ -26,7 +26,10 @@ use splitting::{check, source_of};
 fn check_pad<P: Pads>(sources: &[P], trustee: u8, key: u32, prefix: &Row) -> Row
     ensures { result ≡ (source_of (map P.Pads.source sources.now) trustee).check key prefix.now }
 {
-    source_of(sources, trustee).map_or([0; 32], |source| source.check_pad(key, prefix))
+    match source_of(sources, trustee) {
+        Some(source) => source.check_pad(key, prefix),
+        None => [0; 32],
+    }
 }
 
 // Writes the check row of each member over all of a buffer.
