@@ -26,7 +26,10 @@ use splitting::{check, source_of};
 fn check_pad<P: Pads>(sources: &[P], trustee: u8, key: u32, prefix: &Row) -> Row
     ensures { result ≡ (source_of (map P.Pads.source sources.now) trustee).check key prefix.now }
 {
-    source_of(sources, trustee).map_or([0; 32], |source| source.check_pad(key, prefix))
+    match source_of(sources, trustee) {
+        Some(source) => source.check_pad(key, prefix),
+        None => [0; 32],
+    }
 }
 
 // Writes the check row of each member over all of a buffer.
@@ -63,14 +66,12 @@ impl<H: Hash> Dealer<H> {
         let prefix = scheme::prefix::<H>(origin, key);
         put(out, 0, &prefix);
         write_checks(sources, group, key, &prefix, &mut out[32..path]);
-        let _ = self.tree.write_path(key, &mut out[path..components]);
-        let _ = scheme::write_components::<H>(
-            height,
-            self.plan.width(),
-            origin,
-            key,
-            &mut out[components..],
-        );
+        self.tree
+            .write_path(key, &mut out[path..components])
+            .unwrap();
+        let width = self.plan.width();
+        let rest = &mut out[components..];
+        scheme::write_components::<H>(height, width, origin, key, rest).unwrap();
     }
 
     // Writes the key sheet of a dealt key over all of a buffer: the prefix, the members' check rows, the path, and the components.

@@ -33,7 +33,8 @@ impl<H: Hash> Dealer<H> {
         ensures tables { Tabling (plan_of self.now) }
     {
         // In a buffer of another length than the table's a part has no bytes, and a key sheet does not fit in none.
-        let part = &mut table[part_range(&self.plan, key, table.len())];
+        let range = part_range(&self.plan, key, table.len());
+        let part = &mut table[range];
         self.key_sheet(sources, key, part)?;
         split(&self.plan, sources, key, part)?;
         Ok(())
