@@ -57,16 +57,24 @@ impl<C: Chaining<N>, const N: usize> Buffered<C, N> {
         }
     }
 
+    /// How many bytes more make the block whole.
+    pub fn room(&self) -> usize
+        ensures { result + length (held C.value self.now).tail ≡ N }
+    {
+        N - self.filled
+    }
+
     /// Takes in some bytes more.
     pub fn feed(&mut self, bytes: &[u8])
         ensures { held C.value self.new ≡ chained N C.after (held C.value self.old) bytes.now }
     {
-        if bytes.len() < N - self.filled {
+        let room = self.room();
+        if bytes.len() < room {
             put(&mut self.buffer[..], self.filled, bytes);
             self.filled += bytes.len();
             return;
         }
-        let (front, back) = bytes.split_at(N - self.filled);
+        let (front, back) = bytes.split_at(room);
         put(&mut self.buffer[..], self.filled, front);
         self.chain.take_in(&self.buffer);
         let rest = take_blocks(&mut self.chain, back);
@@ -94,8 +102,8 @@ impl<C: Chaining<N>, const N: usize> Buffered<C, N> {
         ensures ends { IfSome result (λ blocks. (i : ℕ) → i < 8 → (slice_index_or blocks i [] ≡ ended N mark ((held C.value self.now).tail ++ take len (slice_index_or tails.now i []))) × (length (take len (slice_index_or tails.now i [])) ≡ min len 64)) }
     {
         let count = len.min(64);
-        let free = N - self.filled;
-        if free <= count || free - count <= spare {
+        let room = self.room();
+        if room <= count || room - count <= spare {
             return None;
         }
         let block = marked(&self.buffer[..self.filled], self.filled + count, mark);

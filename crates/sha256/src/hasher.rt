@@ -87,7 +87,7 @@ impl Hash for Hasher {
     fn close(self) -> [u8; 32] {
         let mut words = self.message.chain;
         let mut block = self.message.ended(0x80);
-        if self.count % 64 > 55 {
+        if self.message.room() < 9 {
             words.take_in(&block);
             block = [0; 64];
         }
