@@ -1,4 +1,3 @@
-pub mod Arrays
 pub mod Buffers
 pub mod Chaining
 pub mod Masks

@@ -1,4 +1,3 @@
-pub mod Made
 pub mod Blocks
 pub mod Listed
 pub mod Checked

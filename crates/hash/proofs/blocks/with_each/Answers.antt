@@ -1,6 +1,6 @@
 use Rattle.std.proofs.Common.{◌≡◌, min, [], length, get_or, take, rules}
 use Rattle.hash.specs.Buffers.{written}
-use Rattle.hash.proofs.Arrays.{made}
+use Rattle.arrays.proofs.Made.{made}
 use Rattle.hash.proofs.blocks.with_each.Goals as goal
 
 pub returns : goal.returns

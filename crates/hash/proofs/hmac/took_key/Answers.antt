@@ -1,5 +1,5 @@
 use Rattle.std.proofs.Common.{◌+◌, ◌-◌, ◌*◌, ◌%◌, take, replicate, bit_xor, ap, ◌∙◌, arith, rules}
-use Rattle.hash.proofs.Arrays.{mapped_all}
+use Rattle.arrays.proofs.Made.{mapped_all}
 use Rattle.hash.proofs.Masks.{begun, begun_none, begun_more, begun_all}
 use Rattle.hash.proofs.hmac.took_key.Goals as goal
 

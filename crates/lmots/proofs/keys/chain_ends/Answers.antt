@@ -1,6 +1,6 @@
 use Rattle.std.proofs.Common.{◌≡◌, ℕ, ◌+◌, ◌%◌, ◌^◌, ◌<◌, [], get_or, ap, ◌∙◌, arith, rules}
 use Rattle.lmots.specs.LmOts.{X}
-use Rattle.rows.proofs.Arrays.{made}
+use Rattle.arrays.proofs.Made.{made}
 use Rattle.lmots.proofs.keys.chain_ends.Goals as goal
 
 pub returns : goal.returns

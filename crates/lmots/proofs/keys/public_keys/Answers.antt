@@ -4,7 +4,7 @@ use Rattle.rows.specs.Bytes.{rows}
 use Rattle.rows.proofs.Rows.{rows_same}
 use Rattle.sizes.specs.Sizes.{bits}
 use Rattle.lmots.specs.LmOts.{X, p, one_time_key}
-use Rattle.rows.proofs.Arrays.{made}
+use Rattle.arrays.proofs.Made.{made}
 use Rattle.lmots.proofs.keys.public_keys.Goals as goal
 
 pub returns : goal.returns

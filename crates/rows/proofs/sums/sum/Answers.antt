@@ -2,7 +2,7 @@ use Rattle.std.proofs.Common.{◌≡◌, length, get_or, sym, ◌∙◌, ap₂, 
 use Rattle.std.proofs.lemmas.List.{same_lists}
 use lib.Bits.{bit_xor}
 use Rattle.rows.specs.Bytes.{xored}
-use Rattle.rows.proofs.Arrays.{made}
+use Rattle.arrays.proofs.Made.{made}
 use Rattle.rows.proofs.Added.{get_d_any, get_or_xored, length_xored, sums}
 use Rattle.rows.proofs.sums.sum.Goals as goal
 

@@ -1,6 +1,6 @@
 use Rattle.std.proofs.Common.{◌≡◌, ℕ, get_or, [], sym, ap, ◌∙◌, arith, rules}
 use Rattle.std.proofs.lemmas.List.FromFn.{fill_by_all}
-use Rattle.hash.proofs.Arrays.{made}
+use Rattle.arrays.proofs.Made.{made}
 use Rattle.simd_lanes.specs.Lane.{lane}
 use Rattle.simd_lanes.proofs.Ops.{length_lane, get_or_lane}
 use Rattle.sha256.specs.Fips180.{bytes_of}

@@ -1,5 +1,5 @@
 use Rattle.std.proofs.Common.{◌≡◌, [], get_or, ap, ◌∙◌, rules}
-use Rattle.hash.proofs.Arrays.{made}
+use Rattle.arrays.proofs.Made.{made}
 use Rattle.simd_lanes.specs.Lane.{lane}
 use Rattle.sha256_block.specs.Fips180.{compressed}
 use Rattle.sha256.specs.Fips180.{bytes_of}

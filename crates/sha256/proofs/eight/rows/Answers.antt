@@ -1,6 +1,6 @@
 use Rattle.std.proofs.Common.{◌≡◌, [], get_or, sym, refl, ◌∙◌, rules}
 use Rattle.std.proofs.lemmas.List.FromFn.{fill_by_all}
-use Rattle.hash.proofs.Arrays.{made}
+use Rattle.arrays.proofs.Made.{made}
 use Rattle.sha256.proofs.eight.rows.Goals as goal
 
 pub returns : goal.returns

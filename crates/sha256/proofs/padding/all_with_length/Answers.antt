@@ -1,5 +1,5 @@
 use Rattle.std.proofs.Common.{◌≡◌, ◌*◌, ◌%◌, ◌^◌, [], ◌++◌, get_or, take, rules}
-use Rattle.hash.proofs.Arrays.{made}
+use Rattle.arrays.proofs.Made.{made}
 use Rattle.sha256.specs.Fips180.{length64}
 use Rattle.sha256.proofs.padding.all_with_length.Goals as goal
 

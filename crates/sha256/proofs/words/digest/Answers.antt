@@ -1,6 +1,6 @@
 use Rattle.std.proofs.Common.{◌≡◌, map, ap, ◌∙◌, rules}
 use Rattle.std.specs.List.{flat_map}
-use Rattle.hash.proofs.Arrays.{mapped_all}
+use Rattle.arrays.proofs.Made.{mapped_all}
 use Rattle.sha256.specs.Fips180.{bytes4}
 use Rattle.sha256.proofs.Lanes.{bytes_of_all}
 use Rattle.sha256.proofs.words.digest.Goals as goal

@@ -1,5 +1,5 @@
 use Rattle.std.proofs.Common.{◌≡◌, [], ◌∷◌, get_or, ap, rules}
-use Rattle.hash.proofs.Arrays.{made}
+use Rattle.arrays.proofs.Made.{made}
 use Rattle.shake256.proofs.Lanes.{lane_is}
 use Rattle.shake256.proofs.pairs.paired.Goals as goal
 

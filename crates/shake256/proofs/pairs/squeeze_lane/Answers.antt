@@ -1,5 +1,5 @@
 use Rattle.std.proofs.Common.{◌≡◌, [], length, get_or, sym, ◌∙◌, arith, rules}
-use Rattle.hash.proofs.Arrays.{made}
+use Rattle.arrays.proofs.Made.{made}
 use Rattle.simd_lanes.specs.Lane.{lane}
 use Rattle.simd_lanes.proofs.Ops.{get_or_lane}
 use Rattle.shake256.proofs.Lanes.{squeezed_same}

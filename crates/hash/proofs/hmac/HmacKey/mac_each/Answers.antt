@@ -1,6 +1,6 @@
 use Rattle.std.proofs.Common.{◌≡◌, ℕ, ◌<◌, [], ◌++◌, length, get_or, take, replicate, ap, ◌∙◌, rules}
 use Rattle.std.proofs.lemmas.List.{take_at}
-use Rattle.hash.proofs.Arrays.{mapped}
+use Rattle.arrays.proofs.Made.{mapped}
 use Rattle.hash.proofs.hmac.HmacKey.mac_each.Goals as goal
 
 pub returns : goal.returns

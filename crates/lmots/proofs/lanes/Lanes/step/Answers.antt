@@ -1,6 +1,6 @@
 use Rattle.std.proofs.Common.{◌≡◌, ℕ, [], ◌++◌, get_or, take, slice_index, ap, ◌∙◌, rules}
 use Rattle.rows.specs.Bytes.{u8str, u16str, u32str}
-use Rattle.rows.proofs.Arrays.{made}
+use Rattle.arrays.proofs.Made.{made}
 use Rattle.lmots.proofs.Eight.{pieces}
 use Rattle.lmots.proofs.lanes.Lanes.step.Goals as goal
 

@@ -1,6 +1,6 @@
 use Rattle.std.proofs.Common.{◌≡◌, [], rules}
 use Rattle.pads.specs.Source.{nothing}
-use Rattle.pads.proofs.Arrays.{mapped}
+use Rattle.arrays.proofs.Made.{mapped}
 use Rattle.pads.proofs.interface.Pads.pads.Goals as goal
 
 pub returns : goal.returns

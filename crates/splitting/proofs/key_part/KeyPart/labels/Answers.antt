@@ -1,7 +1,7 @@
 use Rattle.std.proofs.Common.{◌≡◌, ◌+◌, rules}
 use Rattle.pads.specs.Source.{nothing}
 use Rattle.splitting.specs.KeyParts.{label_in}
-use Rattle.splitting.proofs.Made.{made}
+use Rattle.arrays.proofs.Made.{made}
 use Rattle.splitting.proofs.key_part.KeyPart.labels.Goals as goal
 
 pub returns : goal.returns
