@@ -81,9 +81,6 @@ whole_cons (a ∷ b ∷ c ∷ d ∷ e ∷ f ∷ []) rest h = refl
 whole_cons (a ∷ b ∷ c ∷ d ∷ e ∷ f ∷ g ∷ more) rest h = absurd (omega arith)
 
 module _ {S : Type 0} (bytes : S → List ℕ) where
-  steps : S → Option (List ℕ) → S → Type 0
-  steps s r t = Reads (bytes s) r (bytes t)
-
   pub road : (s : S) → YieldsList (λ s r t. Reads (bytes s) r (bytes t)) (λ line. line) s (whole_ones (bytes s))
   road s = YieldsList-from_shown (λ s r t. Reads (bytes s) r (bytes t)) (λ line. line) (λ s. whole_ones (bytes s))
       (λ s t e. let none : 6 * length (whole_ones (bytes s)) ≤ length (bytes s) = (cut (bytes s)).fits in let short : length (bytes s) < 6 = e.0 in omega arith)
