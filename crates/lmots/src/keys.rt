@@ -1,5 +1,5 @@
 // One-time public keys: from a seed, eight at a time, and the candidate from a signature's rows.
-ghost use Rattle.std.specs.Prelude.{◌≡◌, ℕ, ◌+◌, ◌-◌, ◌*◌, ◌%◌, ◌^◌, ◌<◌, ◌≤◌, [], ◌++◌, length, MatchResult, ◌≢◌, slice_index_or};
+ghost use Rattle.std.specs.Prelude.{◌≡◌, ℕ, ◌+◌, ◌-◌, ◌*◌, ◌%◌, ◌^◌, ◌<◌, [], length, MatchResult, ◌≢◌, slice_index_or};
 ghost use Rattle.rows.specs.Bytes.{row_at, rows};
 ghost use Rattle.sizes.specs.Sizes.{bits};
 ghost use Rattle.lmots.specs.LmOts.{X, candidate_key, one_time_key, p, public_key};

@@ -5,7 +5,7 @@ use native.Mathlib.Nat.{pow-succ'}
 use lib.Bits.{bit_xor, xor_step, xor_zero_r}
 use Rattle.std.proofs.lemmas.Nat.{shr-shr, shr_high, pow_pos, pow-add, mul-le, le-div, div_below}
 use Rattle.std.proofs.lemmas.Bool.{eqb-true, eqb-false, eq-eqb, ne_eqb, cases_eq}
-use Rattle.lms.specs.Nodes.{Placed, Filled, kept_path}
+use Rattle.lms.specs.Nodes.{Placed, Filled}
 use Rattle.std.proofs.lemmas.List.{get_or-set_same, get_or-set_other}
 use Rattle.lmots.specs.LmOts.{public_key}
 use Rattle.lms.specs.Laws.{LeafToRoot}
@@ -228,6 +228,10 @@ placed_pos h k r o =
           absurd (omega (arith, o.0)))
       | inr n ↦ omega arith
     ]
+
+-- the path of leaf q, read from the nodes
+abbrev pub kept_path : List (List ℕ) → ℕ → ℕ → ℕ → List ℕ
+kept_path nodes h q k = get_or nodes (bit_xor ((2 ^ h + q) / 2 ^ k) 1) []
 
 -- what is read of a tree's nodes
 module _ (hashed : List ℕ → List ℕ) (I seed : List ℕ) (h w : ℕ) (nodes : List (List ℕ)) (f : Filled hashed I seed h w 1 nodes) where

@@ -1,5 +1,5 @@
 // Signatures: laid out from given rows, and signed from a grown tree.
-ghost use Rattle.std.specs.Prelude.{◌≡◌, ◌*◌, ◌^◌, ◌<◌, ◌≤◌, true, ◌&&◌, ◌++◌, length, take, MatchResult, OnOk, ◌==◌};
+ghost use Rattle.std.specs.Prelude.{◌≡◌, ◌*◌, ◌≤◌, true, ◌&&◌, ◌++◌, length, take, MatchResult, OnOk, ◌==◌};
 ghost use Rattle.std.specs.Result.{result_err};
 ghost use Rattle.rows.specs.Bytes.{u32str};
 ghost use Rattle.sizes.specs.Sizes.{bits, levels};
