@@ -20,4 +20,8 @@ impl<A: Pads, B: Pads> Pads for Either<A, B> {
     fn check_pad(&self, key: u32, prefix: &Row) -> Row {
         for_both!(self, pads => pads.check_pad(key, prefix))
     }
+
+    fn pads(&self, labels: &[Label; 8]) -> [Row; 8] {
+        for_both!(self, pads => pads.pads(labels))
+    }
 }
