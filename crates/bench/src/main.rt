@@ -2,8 +2,11 @@
 //! Times go to standard error. To standard output goes a digest that depends on all that was computed.
 #![tactic(auto)]
 
+ghost use Rattle.std.specs.Prelude.{ℕ};
+
 use anyhow::anyhow;
 use hash::Hash;
+use hash::hmac::HmacKey;
 use measuring::per_second;
 use sha256::Hasher as Sha256;
 use shake256::Hasher as Shake256;
@@ -64,35 +67,48 @@ pub(crate) fn show(
     Ok(())
 }
 
+// Runs some work, which does a measure `count` times, and shows its digest.
+fn timed<F: FnOnce() -> [u8; 32]>(
+    rt: &HostRuntime,
+    name: &str,
+    measure: &str,
+    count: u64,
+    work: F,
+) -> anyhow::Result<()>
+    requires { F.IsAlwaysCallable work }
+{
+    let start = Instant::now(rt)?;
+    let digest = work();
+    let figure = rate(rt, &start, count)?;
+    eprintln!(rt; "{name} {measure} {figure}")?;
+    show(rt, name, measure, &digest)
+}
+
 fn measure_hash<H: Hash>(rt: &HostRuntime, name: &str, sizes: &Sizes) -> anyhow::Result<()> {
     let start = Instant::now(rt)?;
     let digest = work::bulk::<H>(sizes.pieces);
     let bytes = rate(rt, &start, sizes.pieces.saturating_mul(work::PIECE as u64))?;
     eprintln!(rt; "{name} bulk_bytes {bytes}")?;
     show(rt, name, "bulk", &digest)?;
-    let start = Instant::now(rt)?;
-    let digest = work::singly::<H>(sizes.hashes);
-    let hashes = rate(rt, &start, sizes.hashes)?;
-    eprintln!(rt; "{name} single {hashes}")?;
-    show(rt, name, "single", &digest)?;
-    let start = Instant::now(rt)?;
-    let digest = work::by_eight::<H>(sizes.hashes / 8);
-    let hashes = rate(rt, &start, sizes.hashes / 8 * 8)?;
-    eprintln!(rt; "{name} eight {hashes}")?;
-    show(rt, name, "eight", &digest)
+    let (hashes, rounds) = (sizes.hashes, sizes.hashes / 8);
+    timed(rt, name, "single", hashes, || {
+        work::singly(hashes, |message| hash::digest::<H>(message))
+    })?;
+    let start = H::start();
+    timed(rt, name, "eight", rounds * 8, || {
+        work::by_eight::<H, _>(rounds, |messages| start.each(messages, 55))
+    })
 }
 
 fn measure_hmac<H: Hash>(rt: &HostRuntime, name: &str, sizes: &Sizes) -> anyhow::Result<()> {
-    let start = Instant::now(rt)?;
-    let digest = work::macs_singly::<H>(sizes.hashes);
-    let macs = rate(rt, &start, sizes.hashes)?;
-    eprintln!(rt; "{name} mac_single {macs}")?;
-    show(rt, name, "mac_single", &digest)?;
-    let start = Instant::now(rt)?;
-    let digest = work::macs_by_eight::<H>(sizes.hashes / 8);
-    let macs = rate(rt, &start, sizes.hashes / 8 * 8)?;
-    eprintln!(rt; "{name} mac_eight {macs}")?;
-    show(rt, name, "mac_eight", &digest)
+    let key: HmacKey<H> = HmacKey::new(&[0xa5; 32]);
+    let (hashes, rounds) = (sizes.hashes, sizes.hashes / 8);
+    timed(rt, name, "mac_single", hashes, || {
+        work::singly(hashes, |text| key.mac(text))
+    })?;
+    timed(rt, name, "mac_eight", rounds * 8, || {
+        work::by_eight::<H, _>(rounds, |texts| key.mac_each(texts, 55))
+    })
 }
 
 fn main(rt: HostRuntime) -> anyhow::Result<()> {
