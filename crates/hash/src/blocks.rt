@@ -31,6 +31,7 @@ pub struct Buffered<C, const N: usize> {
     ghost open: { filled < N },
 }
 
+// By hand, since the language derives no `Clone` for a generic struct with a ghost field.
 impl<C: Copy, const N: usize> Clone for Buffered<C, N> {
     ghost is_clone = { λ x y. y ≡ x };
 

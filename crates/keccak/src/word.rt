@@ -1,4 +1,5 @@
-// What the rounds compute on: a word, or a row of words, one to a lane of the vector.
+// What the rounds compute on: a word, or a row of words, one to a lane of the vector. SHA-256 has a trait of its own, which would be no plainer
+// as one with this: its words are half as long, are added and shifted too, and turn the other way.
 ghost use Rattle.std.specs.Prelude.{◌≡◌, ℕ, ◌<◌, bit_and, bit_xor};
 ghost use Rattle.keccak.specs.Fips202.{complement, turned};
 

@@ -13,7 +13,7 @@ pub struct Section {
 }
 
 impl Section {
-    // Whether a key is one of the section's: a group's test, by the same definition, so the two cannot differ.
+    // Whether a key is one of the section's. That is a group's test, by the same definition; one function for both would take three bare numbers.
     pub fn has(&self, key: u32) -> bool
         ensures { result ≡ in_range self.now.first self.now.count key }
     {

@@ -8,10 +8,8 @@ use tape::Tape;
 
 // Spends a key and prints the answer: 0, or the number of its refusal.
 fn spend<L: Ledger>(rt: &HostRuntime, ledger: &mut L, key: u32) -> io::Result<()> {
-    let answer = match ledger.spend(key) {
-        Ok(()) => 0,
-        Err(refusal) => refusal.number(),
-    };
+    let refused = ledger.spend(key).err();
+    let answer = refused.map_or(0, |refusal| refusal.number());
     let room = ledger.room();
     println!(rt; "spend {key}: {answer}, room {room}")?;
     Ok(())
@@ -19,10 +17,8 @@ fn spend<L: Ledger>(rt: &HostRuntime, ledger: &mut L, key: u32) -> io::Result<()
 
 // Prints what the check of a tape's bytes answers, 0 or the number of its refusal, and the bytes.
 fn check(rt: &HostRuntime, bytes: &[u8]) -> io::Result<()> {
-    let answer = match Tape::check(bytes, Height::Five) {
-        Ok(()) => 0,
-        Err(refusal) => refusal.number(),
-    };
+    let refused = Tape::check(bytes, Height::Five).err();
+    let answer = refused.map_or(0, |refusal| refusal.number());
     println!(rt; "check: {answer}")?;
     if let Ok(lines) = str::from_utf8(bytes) {
         println!(rt; "{lines}")?;

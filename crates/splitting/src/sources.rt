@@ -31,6 +31,7 @@ fn clashes_any<P: Pads>(a: &P, others: &[P]) -> bool
 pub(crate) fn distinct<P: Pads>(sources: &[P]) -> bool
     ensures { result ≡ distinct (map P.Pads.source sources.now) }
 {
+    // An iterator would give each source, and not those behind it.
     let mut rest = sources;
     while let Some((source, others)) = rest.split_first() {
         if clashes_any(source, others) {
