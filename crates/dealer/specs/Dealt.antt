@@ -4,26 +4,21 @@ use Rattle.hash.specs.declared.Hash.{Ghosts}
 use Rattle.plan.specs.Shape.{Shape}
 use Rattle.plan.specs.View.{view}
 use Rattle.plan.specs.Keys.{owner}
-use Rattle.lms.specs.Grown.{Grown}
 use Rattle.lms.specs.Scheme.{signature_size, longest}
 use Rattle.splitting.specs.Split.{unless}
 use Rattle.dealer.specs.declared.dealers.Dealer.{Dealer}
 use Rattle.dealer.specs.declared.refusal.Refusal.{Refusal}
 use Rattle.dealer.specs.declared.refusal.Refusal.TheVariants.{Undealt, Buffer, Message}
 
--- a dealer who was made for a plan, an identifier and a seed: her tree was grown from them
-abbrev pub Ready : {H : Type 0} {G : Ghosts H} → (List ℕ → List ℕ) → Dealer H G → Type 0
-Ready hashed d = Grown hashed d.tree
-
 abbrev pub plan_of : {H : Type 0} {G : Ghosts H} → Dealer H G → Shape
 plan_of d = view d.plan
 
 -- her identifier and seed
 abbrev pub i_of : {H : Type 0} {G : Ghosts H} → Dealer H G → List ℕ
-i_of d = d.tree.id.bytes
+i_of d = d.tree.origin.id.bytes
 
 abbrev pub seed_of : {H : Type 0} {G : Ghosts H} → Dealer H G → List ℕ
-seed_of d = d.tree.seed.bytes
+seed_of d = d.tree.origin.seed.bytes
 
 -- whether a key is dealt
 abbrev pub is_dealt : Option ℕ → Bool

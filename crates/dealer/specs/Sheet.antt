@@ -22,16 +22,9 @@ by_owner p key made None = []
 by_owner p key made (Some g) = made g
 
 module _ (hashed : List ℕ → List ℕ) (p : Shape) (I seed : List ℕ) (sources : List Source) (key : ℕ) where
-  -- the key sheet over a path, and over the tree's own path
-  abbrev pub sheet_over : (ℕ → List ℕ) → List ℕ
-  sheet_over path = by_owner p key (λ g. laid_out p sources g key (prefix hashed I seed key) path (all_components hashed I seed p.width key)) (owner p key)
-
   abbrev pub key_sheet : List ℕ
-  key_sheet = sheet_over (path_row hashed I seed p.height p.width key)
+  key_sheet = by_owner p key (λ g. laid_out p sources g key (prefix hashed I seed key) (path_row hashed I seed p.height p.width key) (all_components hashed I seed p.width key)) (owner p key)
 
-  -- the key's part of the public table, over a path, and over the tree's own
-  abbrev pub part_over : (ℕ → List ℕ) → List ℕ
-  part_over path = split_for p sources key (sheet_over path) (owner p key)
-
+  -- the key's part of the public table
   abbrev pub key_part : List ℕ
   key_part = split_for p sources key key_sheet (owner p key)

@@ -1,18 +1,17 @@
 // Key sheets: all rows of a key before they are split.
-ghost use Rattle.std.specs.Prelude.{◌≡◌, ◌*◌, ◌^◌, ◌<◌, ◌++◌, map, length, MatchResult, OnOk};
+ghost use Rattle.std.specs.Prelude.{◌≡◌, ◌*◌, ◌^◌, ◌<◌, ◌++◌, map, length, MatchResult};
 ghost use Rattle.std.specs.Option.{option_map};
 ghost use Rattle.std.specs.Result.{result_err};
 ghost use Rattle.sizes.specs.Sizes.{levels, bits};
 ghost use Rattle.plan.specs.Members.{members};
 ghost use Rattle.layout.specs.Part.{part_rows};
-ghost use Rattle.lms.specs.Grown.{held_path};
-ghost use Rattle.lms.specs.Scheme.{prefix, all_components};
+ghost use Rattle.lms.specs.Scheme.{prefix, path_row, all_components};
 ghost use Rattle.rows.specs.Bytes.{rows};
 ghost use Rattle.splitting.specs.Sources.{source_of};
 ghost use Rattle.splitting.specs.Split.{refusal};
 ghost use Rattle.dealer.specs.Refusals.{handed_on};
-ghost use Rattle.dealer.specs.Sheet.{check_rows, sheet_over, key_sheet};
-ghost use Rattle.dealer.specs.Dealt.{Ready, plan_of, i_of, seed_of};
+ghost use Rattle.dealer.specs.Sheet.{check_rows, key_sheet};
+ghost use Rattle.dealer.specs.Dealt.{plan_of, i_of, seed_of};
 
 use crate::dealers::Dealer;
 use crate::refusal::Refusal;
@@ -21,17 +20,15 @@ use lms::scheme;
 use pads::Pads;
 use plan::Group;
 use rows::{Row, put, put_row};
-use splitting::check;
+use splitting::{check, source_of};
 
 // A trustee's check pad for a key and a prefix.
 fn check_pad<P: Pads>(sources: &[P], trustee: u8, key: u32, prefix: &Row) -> Row
     ensures { result ≡ (source_of (map P.Pads.source sources.now) trustee).check key prefix.now }
 {
-    let index = trustee.saturating_sub(1) as usize;
-    if index < sources.len() {
-        sources[index].check_pad(key, prefix)
-    } else {
-        [0; 32]
+    match source_of(sources, trustee) {
+        Some(source) => source.check_pad(key, prefix),
+        None => [0; 32],
     }
 }
 
@@ -40,10 +37,7 @@ fn write_checks<P: Pads>(sources: &[P], group: &Group, key: u32, prefix: &Row, o
     requires { length out.old ≡ 32 * length (members group.now.mask) }
     ensures { out.new ≡ check_rows (map P.Pads.source sources.now) (members group.now.mask) key prefix.now }
 {
-    for i in 0..group.size() {
-        let Some(trustee) = group.member(i) else {
-            unreachable()
-        };
+    for (i, trustee) in group.members().enumerate() {
         let row = check_pad(sources, trustee, key, prefix);
         put_row(out, i, &row);
     }
@@ -62,23 +56,21 @@ impl<H: Hash> Dealer<H> {
         requires room { length out.old ≡ 32 * part_rows (levels self.now.plan.height) (bits self.now.plan.width) (length (members group.now.mask)) }
         ensures { out.new ≡ prefix H.Hash.hashed (i_of self.now) (seed_of self.now) key
             ++ check_rows (map P.Pads.source sources.now) (members group.now.mask) key (prefix H.Hash.hashed (i_of self.now) (seed_of self.now) key)
-            ++ rows (levels self.now.plan.height) (held_path self.now.tree key)
+            ++ rows (levels self.now.plan.height) (path_row H.Hash.hashed (i_of self.now) (seed_of self.now) (levels self.now.plan.height) (bits self.now.plan.width) key)
             ++ all_components H.Hash.hashed (i_of self.now) (seed_of self.now) (bits self.now.plan.width) key }
     {
         let height = self.plan.height();
-        let id = self.tree.identifier();
-        let seed = self.tree.seed();
+        let origin = self.tree.origin();
         let path = 32 + 32 * group.size();
         let components = path + 32 * height.levels();
-        let prefix = scheme::prefix::<H>(id, seed, key);
+        let prefix = scheme::prefix::<H>(origin, key);
         put(out, 0, &prefix);
         write_checks(sources, group, key, &prefix, &mut out[32..path]);
         let _ = self.tree.write_path(key, &mut out[path..components]);
         let _ = scheme::write_components::<H>(
             height,
             self.plan.width(),
-            id,
-            seed,
+            origin,
             key,
             &mut out[components..],
         );
@@ -87,11 +79,9 @@ impl<H: Hash> Dealer<H> {
     // Writes the key sheet of a dealt key over all of a buffer: the prefix, the members' check rows, the path, and the components.
     pub fn key_sheet<P: Pads>(&self, sources: &[P], key: u32, out: &mut [u8]) -> Result<(), Refusal>
         ensures answer { result_err result ≡ option_map handed_on (refusal (plan_of self.now) (map P.Pads.source sources.now) key (length out.old)) }
-        ensures held { MatchResult result
-            (λ _. out.new ≡ sheet_over H.Hash.hashed (plan_of self.now) (i_of self.now) (seed_of self.now) (map P.Pads.source sources.now) key (held_path self.now.tree key))
+        ensures written { MatchResult result
+            (λ _. out.new ≡ key_sheet H.Hash.hashed (plan_of self.now) (i_of self.now) (seed_of self.now) (map P.Pads.source sources.now) key)
             (λ _. out.new ≡ out.old) }
-        ensures dealt { Ready H.Hash.hashed self.now → OnOk result (out.new ≡
-            key_sheet H.Hash.hashed (plan_of self.now) (i_of self.now) (seed_of self.now) (map P.Pads.source sources.now) key) }
     {
         let group = check(&self.plan, sources, key, out.len())?;
         self.write_sheet(sources, &group, key, out);

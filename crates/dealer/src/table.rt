@@ -1,13 +1,12 @@
 // The public table: the parts of all dealt keys.
-ghost use Rattle.std.specs.Prelude.{◌≡◌, ◌*◌, map, length, MatchResult, OnOk, nat_eq};
+ghost use Rattle.std.specs.Prelude.{◌≡◌, ◌*◌, map, length, MatchResult, nat_eq};
 ghost use Rattle.std.specs.Option.{option_map};
 ghost use Rattle.std.specs.Result.{result_err};
 ghost use Rattle.layout.specs.Table.{table_rows};
-ghost use Rattle.lms.specs.Grown.{held_path};
 ghost use Rattle.splitting.specs.Split.{refusal_if};
 ghost use Rattle.dealer.specs.Refusals.{handed_on};
-ghost use Rattle.dealer.specs.Sheet.{part_over, key_part};
-ghost use Rattle.dealer.specs.Dealt.{Ready, plan_of, i_of, seed_of};
+ghost use Rattle.dealer.specs.Sheet.{key_part};
+ghost use Rattle.dealer.specs.Dealt.{plan_of, i_of, seed_of};
 ghost use Rattle.dealer.specs.Tabled.{tabled};
 ghost use Rattle.dealer.specs.Laws.{Tabling};
 
@@ -27,18 +26,17 @@ impl<H: Hash> Dealer<H> {
         table: &mut [u8],
     ) -> Result<(), Refusal>
         ensures answer { result_err result ≡ option_map handed_on (refusal_if (plan_of self.now) (map P.Pads.source sources.now) key (λ _. nat_eq (length table.old) (32 * table_rows (plan_of self.now)))) }
-        ensures held { MatchResult result
+        ensures written { MatchResult result
             (λ _. table.new ≡ tabled (plan_of self.now) key
-            (part_over H.Hash.hashed (plan_of self.now) (i_of self.now) (seed_of self.now) (map P.Pads.source sources.now) key (held_path self.now.tree key)) table.old)
+            (key_part H.Hash.hashed (plan_of self.now) (i_of self.now) (seed_of self.now) (map P.Pads.source sources.now) key) table.old)
             (λ _. table.new ≡ table.old) }
-        ensures dealt { Ready H.Hash.hashed self.now → OnOk result (table.new ≡ tabled (plan_of self.now) key
-            (key_part H.Hash.hashed (plan_of self.now) (i_of self.now) (seed_of self.now) (map P.Pads.source sources.now) key) table.old) }
         ensures tables { Tabling (plan_of self.now) }
     {
-        // In a buffer of another length than the table's a part has no bytes, which fits no part.
-        let (start, end) = part_range(&self.plan, key, table.len());
-        self.key_sheet(sources, key, &mut table[start..end])?;
-        split(&self.plan, sources, key, &mut table[start..end])?;
+        // In a buffer of another length than the table's a part has no bytes, and a key sheet does not fit in none.
+        let range = part_range(&self.plan, key, table.len());
+        let part = &mut table[range];
+        self.key_sheet(sources, key, part)?;
+        split(&self.plan, sources, key, part)?;
         Ok(())
     }
 }

@@ -1,3 +1,3 @@
 pub mod LmOts
 pub mod Laws
-pub mod Numbers
+pub mod Refusals

@@ -3,20 +3,20 @@ ghost use Rattle.std.specs.Prelude.{◌≡◌, ℕ, ◌+◌, ◌*◌, ◌^◌, �
 ghost use Rattle.rows.specs.Bytes.{row_at};
 ghost use Rattle.sizes.specs.Sizes.{bits};
 ghost use Rattle.lmots.specs.LmOts.{X, p, positions};
-ghost use Rattle.lmots.specs.Numbers.{number};
+ghost use Rattle.lmots.specs.declared.refusal.Refusal.TheVariants.{Buffer};
 
 use crate::digits::{chain_count, position_count};
-use crate::lanes::{behind, places_of_chains, starts, step_lanes};
+use crate::lanes::Lanes;
 use crate::refusal::Refusal;
 use hash::Hash;
-use rows::{Identifier, Row, Seed, put_row};
+use rows::{Origin, Row, put_row};
 use sizes::Width;
 
 // Writes the lanes' rows at position j of the chains from `first` on, as far as there are chains.
 fn write_lanes(out: &mut [u8], width: Width, first: usize, j: usize, rows: &[Row; 8])
     requires room { length out.old ≡ 32 * (p (bits width) * 2 ^ bits width) }
     requires inside { j < 2 ^ bits width }
-    requires low { first ≤ 265 }
+    requires low { first ≤ p (bits width) }
     ensures new { (l : ℕ) → l < 8 → first + l < p (bits width) →
         row_at ((first + l) * 2 ^ bits width + j) out.new ≡ slice_index_or rows.now l [] }
     ensures old { (i k : ℕ) → k < 2 ^ bits width → (i < first) ⊎ (k ≢ j) →
@@ -24,57 +24,53 @@ fn write_lanes(out: &mut [u8], width: Width, first: usize, j: usize, rows: &[Row
 {
     let size = position_count(width);
     let count = chain_count(width);
-    for l in 0..8 {
-        if first + l < count {
-            put_row(out, (first + l) * size + j, &rows[l]);
-        }
+    let here = (count - first).min(8);
+    for (l, row) in rows[..here].iter().enumerate() {
+        put_row(out, (first + l) * size + j, row);
     }
 }
 
 // Writes all positions of eight chains of key q, as far as there are chains.
 fn write_chains<H: Hash>(
-    id: Identifier,
-    seed: Seed,
+    origin: Origin,
     width: Width,
     q: u32,
     first: usize,
     out: &mut [u8],
 )
     requires room { length out.old ≡ 32 * (p (bits width) * 2 ^ bits width) }
-    requires low { first ≤ 265 }
+    requires low { first ≤ p (bits width) }
     ensures new { (l j : ℕ) → l < 8 → first + l < p (bits width) → j < 2 ^ bits width →
-        row_at ((first + l) * 2 ^ bits width + j) out.new ≡ X H.Hash.hashed id.bytes seed.bytes q (first + l) j }
+        row_at ((first + l) * 2 ^ bits width + j) out.new ≡ X H.Hash.hashed origin.id.bytes origin.seed.bytes q (first + l) j }
     ensures old { (i j : ℕ) → i < first → j < 2 ^ bits width →
         row_at (i * 2 ^ bits width + j) out.new ≡ row_at (i * 2 ^ bits width + j) out.old }
 {
-    let places = places_of_chains(q, first as u16);
-    let head = behind::<H>(id);
-    let mut rows = starts::<H>(&head, &places, seed);
+    let lanes = Lanes::<H>::of_chains(origin.id, q, first as u16);
+    let mut rows = lanes.starts(origin.seed);
     write_lanes(out, width, first, 0, &rows);
     for j in 1..position_count(width) {
-        rows = step_lanes::<H>(&head, &places, (j - 1) as u8, &rows);
+        rows = lanes.step((j - 1) as u8, &rows);
         write_lanes(out, width, first, j, &rows);
     }
 }
 
 // Writes the row at every position of every chain of key q, chain by chain, over all of a buffer.
 pub fn write_positions<H: Hash>(
-    id: Identifier,
-    seed: Seed,
+    origin: Origin,
     width: Width,
     q: u32,
     out: &mut [u8],
 ) -> Result<(), Refusal>
     ensures { MatchResult result
-        (λ _. (length out.old ≡ 32 * (p (bits width) * 2 ^ bits width)) × (out.new ≡ positions H.Hash.hashed id.bytes seed.bytes (bits width) q))
-        (λ e. (length out.old ≢ 32 * (p (bits width) * 2 ^ bits width)) × (number e ≡ 20) × (out.new ≡ out.old)) }
+        (λ _. (length out.old ≡ 32 * (p (bits width) * 2 ^ bits width)) × (out.new ≡ positions H.Hash.hashed origin.id.bytes origin.seed.bytes (bits width) q))
+        (λ e. (length out.old ≢ 32 * (p (bits width) * 2 ^ bits width)) × (e ≡ Buffer) × (out.new ≡ out.old)) }
 {
     let count = chain_count(width);
     if out.len() != 32 * (count * position_count(width)) {
         return Err(Refusal::Buffer);
     }
-    for b in 0..(count + 7) / 8 {
-        write_chains::<H>(id, seed, width, q, 8 * b, out);
+    for first in (0..count).step_by(8) {
+        write_chains::<H>(origin, width, q, first, out);
     }
     Ok(())
 }

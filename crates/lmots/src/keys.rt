@@ -1,72 +1,67 @@
 // One-time public keys: from a seed, eight at a time, and the candidate from a signature's rows.
 ghost use Rattle.std.specs.Prelude.{◌≡◌, ℕ, ◌+◌, ◌-◌, ◌*◌, ◌%◌, ◌^◌, ◌<◌, ◌≤◌, [], ◌++◌, length, MatchResult, ◌≢◌, slice_index_or};
-ghost use Rattle.rows.specs.Bytes.{u16str, u32str, row_at, rows};
+ghost use Rattle.rows.specs.Bytes.{row_at, rows};
 ghost use Rattle.sizes.specs.Sizes.{bits};
 ghost use Rattle.lmots.specs.LmOts.{X, candidate_key, one_time_key, p, public_key};
-ghost use Rattle.lmots.specs.Numbers.{number};
+ghost use Rattle.lmots.specs.declared.refusal.Refusal.TheVariants.{Buffer};
 
 use crate::digits::{chain_count, digit_at, last_position, with_checksum};
-use crate::lanes::{places_of_keys, rows_at};
+use crate::lanes::Lanes;
+use crate::opening::opened;
 use crate::refusal::Refusal;
 use crate::single::walk;
 use hash::Hash;
-use rows::{Identifier, Row, Seed, row_at};
+use rows::{Identifier, Origin, Row};
 use sizes::Width;
+use std::array;
 
-// The hash of key q's chain ends, begun.
-fn opened<H: Hash>(id: Identifier, q: u32) -> H
-    ensures { H.Hash.state result ≡ H.Hash.fed H.Hash.first (id.bytes ++ u32str q ++ u16str 0x8080) }
-{
-    let mut key = H::start();
-    key.feed(&id.bytes());
-    key.feed(&q.to_be_bytes());
-    key.feed(&[0x80, 0x80]);
-    key
-}
+// The mark in front of a key's chain ends.
+const D_PBLK: u16 = 0x8080;
 
-// The ends of all chains of eight keys in a row, by chain and key.
-fn chain_ends<H: Hash>(id: Identifier, seed: Seed, width: Width, first: u32) -> [[Row; 8]; 265]
+// The ends of all chains of eight keys in a row, by chain and key; behind the last chain they are zero.
+fn chain_ends<H: Hash>(origin: Origin, width: Width, first: u32) -> [[Row; 8]; 265]
     ensures { (i l : ℕ) → i < p (bits width) → l < 8 →
-        slice_index_or (slice_index_or result i []) l [] ≡ X H.Hash.hashed id.bytes seed.bytes ((first + l) % 2 ^ 32) i (2 ^ bits width - 1) }
+        slice_index_or (slice_index_or result i []) l [] ≡ X H.Hash.hashed origin.id.bytes origin.seed.bytes ((first + l) % 2 ^ 32) i (2 ^ bits width - 1) }
 {
     let top = last_position(width);
-    let mut ends = [[[0; 32]; 8]; 265];
-    for i in 0..chain_count(width) {
-        ends[i] = rows_at::<H>(id, seed, &places_of_keys(first, i as u16), top);
-    }
-    ends
+    let count = chain_count(width);
+    array::from_fn(|i| -> [Row; 8]
+        requires { i < 265 }
+        ensures { i < count → (l : ℕ) → l < 8 → slice_index_or result l [] ≡ X H.Hash.hashed origin.id.bytes origin.seed.bytes ((first + l) % 2 ^ 32) i top }
+    {
+        if i < count {
+            Lanes::<H>::of_keys(origin.id, first, i as u16).rows_at(origin.seed, top)
+        } else {
+            [[0; 32]; 8]
+        }
+    })
 }
 
 // The public key of key q, whose chain ends stand in lane l.
-fn key_of_lane<H: Hash>(
-    id: Identifier,
-    q: u32,
-    ends: &[[Row; 8]; 265],
-    count: usize,
-    l: usize,
-) -> Row
-    requires chains { count ≤ 265 }
-    requires lane { l < 8 }
-    ensures { result ≡ one_time_key H.Hash.hashed id.bytes q (rows count (λ i. slice_index_or (slice_index_or ends.now i []) l [])) }
+fn key_of_lane<H: Hash>(id: Identifier, q: u32, ends: &[[Row; 8]], l: usize) -> Row
+    requires { l < 8 }
+    ensures { result ≡ one_time_key H.Hash.hashed id.bytes q (rows (length ends.now) (λ i. slice_index_or (slice_index_or ends.now i []) l [])) }
 {
-    let mut key = opened::<H>(id, q);
-    for i in 0..count {
-        key.feed(&ends[i][l]);
+    let mut key = opened::<H>(id, q, D_PBLK);
+    for rows in ends {
+        key.feed(&rows[l]);
     }
     key.close()
 }
 
 // The public keys of eight one-time keys in a row; their numbers wrap, as their four bytes do.
-pub fn public_keys<H: Hash>(id: Identifier, seed: Seed, width: Width, first: u32) -> [Row; 8]
-    ensures { (l : ℕ) → l < 8 → slice_index_or result l [] ≡ public_key H.Hash.hashed id.bytes seed.bytes (bits width) ((first + l) % 2 ^ 32) }
+pub fn public_keys<H: Hash>(origin: Origin, width: Width, first: u32) -> [Row; 8]
+    ensures { (l : ℕ) → l < 8 → slice_index_or result l [] ≡ public_key H.Hash.hashed origin.id.bytes origin.seed.bytes (bits width) ((first + l) % 2 ^ 32) }
 {
-    let ends = chain_ends::<H>(id, seed, width, first);
-    let count = chain_count(width);
-    let mut keys = [[0; 32]; 8];
-    for l in 0..8 {
-        keys[l] = key_of_lane::<H>(id, first.wrapping_add(l as u32), &ends, count, l);
-    }
-    keys
+    let all = chain_ends::<H>(origin, width, first);
+    let ends = &all[..chain_count(width)];
+    array::from_fn(|l| -> Row
+        requires { l < 8 }
+        ensures { result ≡ one_time_key H.Hash.hashed origin.id.bytes ((first + l) % 2 ^ 32)
+            (rows (length ends.entry.now) (λ i. slice_index_or (slice_index_or ends.entry.now i []) l [])) }
+    {
+        key_of_lane::<H>(origin.id, first.wrapping_add(l as u32), ends, l)
+    })
 }
 
 // The one-time public key to which a signature's rows lead, one row for each chain.
@@ -79,7 +74,7 @@ pub fn candidate_key<H: Hash>(
 ) -> Result<Row, Refusal>
     ensures { MatchResult result
         (λ k. (length rows.now ≡ 32 * p (bits width)) × (k ≡ candidate_key H.Hash.hashed id.bytes (bits width) q digest.now (λ i. row_at i rows.now)))
-        (λ e. (length rows.now ≢ 32 * p (bits width)) × (number e ≡ 20)) }
+        (λ e. (length rows.now ≢ 32 * p (bits width)) × (e ≡ Buffer)) }
 {
     let count = chain_count(width);
     if rows.len() != 32 * count {
@@ -87,10 +82,9 @@ pub fn candidate_key<H: Hash>(
     }
     let top = last_position(width);
     let digits = with_checksum(width, digest);
-    let mut key = opened::<H>(id, q);
-    for i in 0..count {
-        let y = row_at(rows, 32 * i);
-        let end = walk::<H>(id, q, i as u16, digit_at(width, &digits, i), top, &y);
+    let mut key = opened::<H>(id, q, D_PBLK);
+    for (i, y) in rows.as_chunks().0.iter().enumerate() {
+        let end = walk::<H>(id, q, i as u16, digit_at(width, &digits, i), top, y);
         key.feed(&end);
     }
     Ok(key.close())

@@ -1,110 +1,105 @@
 // Eight chains at a time, one in each lane of the hash.
-ghost use Rattle.std.specs.Prelude.{◌≡◌, ℕ, ◌+◌, ◌%◌, ◌^◌, ◌<◌, ◌≤◌, List, [], ◌++◌, take, slice_index_or};
+ghost use Rattle.std.specs.Prelude.{◌≡◌, ℕ, ◌+◌, ◌%◌, ◌^◌, ◌<◌, ◌≤◌, List, [], ◌++◌, take, slice_index, slice_index_or};
 ghost use Rattle.rows.specs.Bytes.{u8str, u16str, u32str};
-ghost use Rattle.lmots.specs.LmOts.{X, chain, start};
+ghost use Rattle.lmots.specs.LmOts.{X, start};
 
 use hash::Hash;
 use rows::{Identifier, Row, Seed, put};
+use std::array;
 
-// Which chain of which key: the bytes of the key's number and of the chain's.
-pub(crate) type Place = [u8; 6];
-
-fn place(q: u32, i: u16) -> Place
-    ensures { result ≡ u32str q ++ u16str i }
-{
-    let [a, b, c, d] = q.to_be_bytes();
-    let [e, f] = i.to_be_bytes();
-    [a, b, c, d, e, f]
+// Which chain of which key each lane holds; the hash has taken in the identifier.
+#[derive(Drop)]
+pub(crate) struct Lanes<H: Hash> {
+    id: Identifier,
+    head: H,
+    keys: [u32; 8],
+    chains: [u16; 8],
+    ghost goes_on: { (m : List ℕ) → H.Hash.closed (H.Hash.fed (H.Hash.state head) m) ≡ H.Hash.hashed (id.bytes ++ m) },
 }
 
-// Chain i of eight keys in a row; their numbers wrap, as their four bytes do.
-pub(crate) fn places_of_keys(first: u32, i: u16) -> [Place; 8]
-    ensures { (l : ℕ) → l < 8 → slice_index_or result l [] ≡ u32str ((first + l) % 2 ^ 32) ++ u16str i }
+// The hash's state behind an identifier.
+fn behind<H: Hash>(id: Identifier) -> H
+    ensures { (m : List ℕ) → H.Hash.closed (H.Hash.fed (H.Hash.state result) m) ≡ H.Hash.hashed (id.bytes ++ m) }
 {
-    let mut places = [[0; 6]; 8];
-    for l in 0..8 {
-        places[l] = place(first.wrapping_add(l as u32), i);
-    }
-    places
-}
-
-// Eight chains in a row of key q.
-pub(crate) fn places_of_chains(q: u32, first: u16) -> [Place; 8]
-    requires { first + 8 ≤ 2 ^ 16 }
-    ensures { (l : ℕ) → l < 8 → slice_index_or result l [] ≡ u32str q ++ u16str (first + l) }
-{
-    let mut places = [[0; 6]; 8];
-    for l in 0..8 {
-        places[l] = place(q, first + l as u16);
-    }
-    places
+    let mut head = H::start();
+    head.feed(&id.bytes());
+    head
 }
 
 // What a step hashes behind the identifier, in the first 39 bytes.
-fn tail(place: &Place, j: u8, x: &Row) -> [u8; 64]
-    ensures { take 39 result ≡ place.now ++ u8str j ++ x.now }
+fn tail(q: u32, i: u16, j: u8, x: &Row) -> [u8; 64]
+    ensures { take 39 result ≡ u32str q ++ u16str i ++ u8str j ++ x.now }
 {
     let mut tail = [0; 64];
-    put(&mut tail, 0, place);
+    put(&mut tail, 0, &q.to_be_bytes());
+    put(&mut tail, 4, &i.to_be_bytes());
     put(&mut tail, 6, &[j]);
     put(&mut tail, 7, x);
     tail
 }
 
-// The hash's state behind an identifier.
-pub(crate) fn behind<H: Hash>(id: Identifier) -> H
-    ensures { H.Hash.state result ≡ H.Hash.fed H.Hash.first id.bytes }
-{
-    let mut h = H::start();
-    h.feed(&id.bytes());
-    h
-}
-
-// One step in each lane, all with the byte j.
-pub(crate) fn step_lanes<H: Hash>(head: &H, places: &[Place; 8], j: u8, rows: &[Row; 8]) -> [Row; 8]
-    ensures { (l : ℕ) → l < 8 → slice_index_or result l [] ≡ H.Hash.closed (H.Hash.fed (H.Hash.state head.now)
-        (slice_index_or places.now l [] ++ u8str j ++ slice_index_or rows.now l [])) }
-{
-    let mut tails = [[0; 64]; 8];
-    for l in 0..8 {
-        tails[l] = tail(&places[l], j, &rows[l]);
+impl<H: Hash> Lanes<H> {
+    // Chain i of eight keys in a row; their numbers wrap, as their four bytes do.
+    pub(crate) fn of_keys(id: Identifier, first: u32, i: u16) -> Lanes<H>
+        ensures tree { result.id ≡ id }
+        ensures keys { (l : ℕ) → l < 8 → slice_index result.keys l ≡ (first + l) % 2 ^ 32 }
+        ensures chains { (l : ℕ) → l < 8 → slice_index result.chains l ≡ i }
+    {
+        Lanes {
+            id,
+            head: behind(id),
+            keys: array::from_fn(|l| first.wrapping_add(l as u32)),
+            chains: [i; 8],
+        }
     }
-    head.each(&tails, 39)
-}
 
-// The first steps in each lane, from the starts of the chains to a position.
-fn walk_lanes<H: Hash>(head: &H, places: &[Place; 8], position: u8, starts: &[Row; 8]) -> [Row; 8]
-    ensures { (I : List ℕ) (l q i : ℕ) → H.Hash.state head.now ≡ H.Hash.fed H.Hash.first I → l < 8 →
-        slice_index_or places.now l [] ≡ u32str q ++ u16str i →
-        slice_index_or result l [] ≡ chain H.Hash.hashed I q i 0 position (slice_index_or starts.now l []) }
-{
-    let mut rows = *starts;
-    for j in 0..position {
-        rows = step_lanes::<H>(head, places, j, &rows);
+    // Eight chains in a row of key q.
+    pub(crate) fn of_chains(id: Identifier, q: u32, first: u16) -> Lanes<H>
+        requires { first + 8 ≤ 2 ^ 16 }
+        ensures tree { result.id ≡ id }
+        ensures keys { (l : ℕ) → l < 8 → slice_index result.keys l ≡ q }
+        ensures chains { (l : ℕ) → l < 8 → slice_index result.chains l ≡ first + l }
+    {
+        Lanes {
+            id,
+            head: behind(id),
+            keys: [q; 8],
+            chains: array::from_fn(|l| first + l as u16),
+        }
     }
-    rows
-}
 
-// The starts of eight chains.
-pub(crate) fn starts<H: Hash>(head: &H, places: &[Place; 8], seed: Seed) -> [Row; 8]
-    ensures { (I : List ℕ) (l q i : ℕ) → H.Hash.state head.now ≡ H.Hash.fed H.Hash.first I → l < 8 →
-        slice_index_or places.now l [] ≡ u32str q ++ u16str i →
-        slice_index_or result l [] ≡ start H.Hash.hashed I seed.bytes q i }
-{
-    step_lanes::<H>(head, places, 0xff, &[seed.bytes(); 8])
-}
+    // One step in each lane, all with the byte j.
+    pub(crate) fn step(&self, j: u8, rows: &[Row; 8]) -> [Row; 8]
+        ensures { (l : ℕ) → l < 8 → slice_index_or result l [] ≡ H.Hash.hashed (self.now.id.bytes
+            ++ u32str (slice_index self.now.keys l) ++ u16str (slice_index self.now.chains l) ++ u8str j ++ slice_index_or rows.now l []) }
+    {
+        let tails = array::from_fn(|l| -> [u8; 64]
+            requires { l < 8 }
+            ensures { take 39 result ≡ u32str (slice_index self.entry.now.keys l) ++ u16str (slice_index self.entry.now.chains l)
+                ++ u8str j ++ slice_index_or rows.entry.now l [] }
+        {
+            tail(self.keys[l], self.chains[l], j, &rows[l])
+        });
+        self.head.each(&tails, 39)
+    }
 
-// The rows at one position of eight chains.
-pub(crate) fn rows_at<H: Hash>(
-    id: Identifier,
-    seed: Seed,
-    places: &[Place; 8],
-    position: u8,
-) -> [Row; 8]
-    ensures { (l q i : ℕ) → l < 8 → slice_index_or places.now l [] ≡ u32str q ++ u16str i →
-        slice_index_or result l [] ≡ X H.Hash.hashed id.bytes seed.bytes q i position }
-{
-    let head = behind::<H>(id);
-    let first = starts::<H>(&head, places, seed);
-    walk_lanes::<H>(&head, places, position, &first)
+    // The starts of the chains.
+    pub(crate) fn starts(&self, seed: Seed) -> [Row; 8]
+        ensures { (l : ℕ) → l < 8 → slice_index_or result l [] ≡ start H.Hash.hashed self.now.id.bytes seed.bytes
+            (slice_index self.now.keys l) (slice_index self.now.chains l) }
+    {
+        self.step(0xff, &[seed.bytes(); 8])
+    }
+
+    // The rows at one position of the chains.
+    pub(crate) fn rows_at(&self, seed: Seed, position: u8) -> [Row; 8]
+        ensures { (l : ℕ) → l < 8 → slice_index_or result l [] ≡ X H.Hash.hashed self.now.id.bytes seed.bytes
+            (slice_index self.now.keys l) (slice_index self.now.chains l) position }
+    {
+        let mut rows = self.starts(seed);
+        for j in 0..position {
+            rows = self.step(j, &rows);
+        }
+        rows
+    }
 }

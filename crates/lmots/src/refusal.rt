@@ -1,5 +1,20 @@
 // What a call of this crate can refuse.
+ghost use Rattle.std.specs.Prelude.{◌≡◌};
+ghost use Rattle.lmots.specs.Refusals.{number_of};
+
 #[derive(Clone, Copy, PartialEq, Eq, Debug)]
 pub enum Refusal {
+    // A buffer has not its exact length.
     Buffer,
+}
+
+impl Refusal {
+    // The public number.
+    pub fn number(&self) -> usize
+        ensures { result ≡ number_of self.now }
+    {
+        match self {
+            Refusal::Buffer => 20,
+        }
+    }
 }

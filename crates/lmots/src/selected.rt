@@ -3,19 +3,18 @@ ghost use Rattle.std.specs.Prelude.{◌≡◌, ◌*◌, length, MatchResult, ◌
 ghost use Rattle.rows.specs.Bytes.{rows};
 ghost use Rattle.sizes.specs.Sizes.{bits};
 ghost use Rattle.lmots.specs.LmOts.{X, digit, p};
-ghost use Rattle.lmots.specs.Numbers.{number};
+ghost use Rattle.lmots.specs.declared.refusal.Refusal.TheVariants.{Buffer};
 
 use crate::digits::{chain_count, digit_at, with_checksum};
 use crate::refusal::Refusal;
 use crate::single::{chain_start, walk};
 use hash::Hash;
-use rows::{Identifier, Row, Seed, put_row};
+use rows::{Origin, Row, put_row};
 use sizes::Width;
 
 // Writes the row of each chain of key q at the position that a digest selects, over all of a buffer.
 pub fn write_selected<H: Hash>(
-    id: Identifier,
-    seed: Seed,
+    origin: Origin,
     width: Width,
     q: u32,
     digest: &Row,
@@ -23,8 +22,8 @@ pub fn write_selected<H: Hash>(
 ) -> Result<(), Refusal>
     ensures { MatchResult result
         (λ _. (length out.old ≡ 32 * p (bits width)) × (out.new ≡
-        rows (p (bits width)) (λ i. X H.Hash.hashed id.bytes seed.bytes q i (digit (bits width) digest.now i))))
-        (λ e. (length out.old ≢ 32 * p (bits width)) × (number e ≡ 20) × (out.new ≡ out.old)) }
+        rows (p (bits width)) (λ i. X H.Hash.hashed origin.id.bytes origin.seed.bytes q i (digit (bits width) digest.now i))))
+        (λ e. (length out.old ≢ 32 * p (bits width)) × (e ≡ Buffer) × (out.new ≡ out.old)) }
 {
     let count = chain_count(width);
     if out.len() != 32 * count {
@@ -32,8 +31,8 @@ pub fn write_selected<H: Hash>(
     }
     let digits = with_checksum(width, digest);
     for i in 0..count {
-        let x = chain_start::<H>(id, seed, q, i as u16);
-        let y = walk::<H>(id, q, i as u16, 0, digit_at(width, &digits, i), &x);
+        let x = chain_start::<H>(origin, q, i as u16);
+        let y = walk::<H>(origin.id, q, i as u16, 0, digit_at(width, &digits, i), &x);
         put_row(out, i, &y);
     }
     Ok(())

@@ -3,17 +3,15 @@ ghost use Rattle.std.specs.Prelude.{◌≡◌, ◌-◌, ◌≤◌, ◌++◌, len
 ghost use Rattle.rows.specs.Bytes.{u8str, u16str, u32str};
 ghost use Rattle.lmots.specs.LmOts.{chain, digest, prefix, start};
 
+use crate::opening::opened;
 use hash::Hash;
-use rows::{Identifier, Row, Seed};
+use rows::{Identifier, Origin, Row};
 
 // One step of chain i of key q.
 fn step<H: Hash>(id: Identifier, q: u32, i: u16, j: u8, x: &Row) -> Row
     ensures { result ≡ H.Hash.hashed (id.bytes ++ u32str q ++ u16str i ++ u8str j ++ x.now) }
 {
-    let mut h = H::start();
-    h.feed(&id.bytes());
-    h.feed(&q.to_be_bytes());
-    h.feed(&i.to_be_bytes());
+    let mut h = opened::<H>(id, q, i);
     h.feed(&[j]);
     h.feed(x);
     h.close()
@@ -32,17 +30,17 @@ pub(crate) fn walk<H: Hash>(id: Identifier, q: u32, i: u16, from: u8, to: u8, x:
 }
 
 // The start of a chain.
-pub(crate) fn chain_start<H: Hash>(id: Identifier, seed: Seed, q: u32, i: u16) -> Row
-    ensures { result ≡ start H.Hash.hashed id.bytes seed.bytes q i }
+pub(crate) fn chain_start<H: Hash>(origin: Origin, q: u32, i: u16) -> Row
+    ensures { result ≡ start H.Hash.hashed origin.id.bytes origin.seed.bytes q i }
 {
-    step::<H>(id, q, i, 0xff, &seed.bytes())
+    step::<H>(origin.id, q, i, 0xff, &origin.seed.bytes())
 }
 
 // The prefix C of key q.
-pub fn prefix_of<H: Hash>(id: Identifier, seed: Seed, q: u32) -> Row
-    ensures { result ≡ prefix H.Hash.hashed id.bytes seed.bytes q }
+pub fn prefix_of<H: Hash>(origin: Origin, q: u32) -> Row
+    ensures { result ≡ prefix H.Hash.hashed origin.id.bytes origin.seed.bytes q }
 {
-    chain_start::<H>(id, seed, q, 0xfffd)
+    chain_start::<H>(origin, q, 0xfffd)
 }
 
 // The digest of a message for key q, which is what is signed.
@@ -50,10 +48,7 @@ pub fn digest_of<H: Hash>(id: Identifier, q: u32, prefix: &Row, message: &[u8]) 
     ensures value { result ≡ digest H.Hash.hashed id.bytes q prefix.now message.now }
     ensures named { length id.bytes ≡ 16 }
 {
-    let mut h = H::start();
-    h.feed(&id.bytes());
-    h.feed(&q.to_be_bytes());
-    h.feed(&[0x81, 0x81]);
+    let mut h = opened::<H>(id, q, 0x8181);
     h.feed(prefix);
     h.feed(message);
     h.close()

@@ -1,5 +1,5 @@
 -- Codes and numbers read back.
-use Rattle.std.proofs.Common.{◌≡◌, ℕ, ◌+◌, ◌*◌, ◌/◌, ◌^◌, ◌<◌, Bool, true, false, cond, eqb, Some, None, refl, arith}
+use Rattle.std.proofs.Common.{◌≡◌, ℕ, ◌+◌, ◌*◌, ◌/◌, ◌^◌, ◌<◌, ◌≤◌, Bool, true, false, cond, eqb, Some, None, refl, arith}
 use Rattle.std.proofs.lemmas.Bool.{eqb-true, false≢true}
 use Rattle.std.proofs.lemmas.Bool.Decides.{nat_tests}
 use Rattle.sizes.specs.declared.height.Height.{Height}
@@ -72,3 +72,7 @@ width_given ots c f = one (eqb c ots) refl
 pub eights : (height : Height) → 8 * (2 ^ levels height / 8) ≡ 2 ^ levels height
 eights Five = refl
 eights Ten = refl
+
+pub few : (height : Height) → 2 ^ levels height ≤ 1024
+few Five = omega arith
+few Ten = omega arith

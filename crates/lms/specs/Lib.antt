@@ -2,6 +2,6 @@ pub mod Lms
 pub mod Accepted
 pub mod Laws
 pub mod Nodes
-pub mod Numbers
+pub mod Refusals
 pub mod Grown
 pub mod Scheme

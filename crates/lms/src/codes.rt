@@ -35,13 +35,10 @@ pub(crate) fn tree_code<H: Hash>(height: Height) -> u32
 pub(crate) fn height_of<H: Hash>(code: u32) -> Option<Height>
     ensures { option_map levels result ≡ height_of H.Hash.tree code }
 {
-    let base = H::tree_base() as u32;
-    if code == base {
-        Some(Height::Five)
-    } else if code == base + 1 {
-        Some(Height::Ten)
-    } else {
-        None
+    match code.checked_sub(H::tree_base() as u32)? {
+        0 => Some(Height::Five),
+        1 => Some(Height::Ten),
+        _ => None,
     }
 }
 
@@ -49,16 +46,11 @@ pub(crate) fn height_of<H: Hash>(code: u32) -> Option<Height>
 pub(crate) fn width_of<H: Hash>(code: u32) -> Option<Width>
     ensures { option_map bits result ≡ width_of H.Hash.ots code }
 {
-    let base = H::ots_base() as u32;
-    if code == base {
-        Some(Width::One)
-    } else if code == base + 1 {
-        Some(Width::Two)
-    } else if code == base + 2 {
-        Some(Width::Four)
-    } else if code == base + 3 {
-        Some(Width::Eight)
-    } else {
-        None
+    match code.checked_sub(H::ots_base() as u32)? {
+        0 => Some(Width::One),
+        1 => Some(Width::Two),
+        2 => Some(Width::Four),
+        3 => Some(Width::Eight),
+        _ => None,
     }
 }

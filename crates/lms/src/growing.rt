@@ -1,7 +1,6 @@
 // Growing a tree: its leaves eight at a time, and then every node from the two below it.
 ghost use Rattle.std.specs.Prelude.{◌≡◌, ℕ, ◌+◌, ◌*◌, ◌^◌, ◌<◌, ◌≤◌, List, [], length, IfOk, slice_index_or};
 ghost use Rattle.sizes.specs.Sizes.{bits, levels};
-ghost use Rattle.lms.specs.Grown.{Grown};
 ghost use Rattle.lms.specs.Lms.{inner_node, leaf_node};
 ghost use Rattle.lms.specs.Nodes.{Filled};
 
@@ -9,7 +8,7 @@ use crate::kept::Tree;
 use crate::nodes::{inner, leaf};
 use hash::Hash;
 use lmots::public_keys;
-use rows::{Identifier, Row, Seed};
+use rows::{Identifier, Origin, Row};
 use sizes::{Height, Width};
 use std::alloc::{AllocError, Global};
 use std::marker::PhantomData;
@@ -21,20 +20,20 @@ fn fill_eight<H: Hash>(id: Identifier, r: usize, keys: &[Row; 8], nodes: &mut [R
     ensures new { (l : ℕ) → l < 8 → slice_index_or nodes.new (r + l) [] ≡ leaf_node H.Hash.hashed id.bytes (r + l) (slice_index_or keys.now l []) }
     ensures old { (m : ℕ) → m < r → slice_index_or nodes.new m [] ≡ slice_index_or nodes.old m [] }
 {
-    for l in 0..8 {
-        nodes[r + l] = leaf::<H>(id, (r + l) as u32, &keys[l]);
+    for (l, key) in keys.iter().enumerate() {
+        nodes[r + l] = leaf::<H>(id, (r + l) as u32, key);
     }
 }
 
 // All leaves.
-fn fill_leaves<H: Hash>(id: Identifier, seed: Seed, height: Height, width: Width, nodes: &mut [Row])
+fn fill_leaves<H: Hash>(origin: Origin, height: Height, width: Width, nodes: &mut [Row])
     requires { length nodes.old ≡ 2 ^ levels height * 2 }
-    ensures { Filled H.Hash.hashed id.bytes seed.bytes (levels height) (bits width) (2 ^ levels height) nodes.new }
+    ensures { Filled H.Hash.hashed origin.id.bytes origin.seed.bytes (levels height) (bits width) (2 ^ levels height) nodes.new }
 {
     let first = height.keys();
-    for b in 0..first / 8 {
-        let keys = public_keys::<H>(id, seed, width, 8 * b);
-        fill_eight::<H>(id, (first + 8 * b) as usize, &keys, nodes);
+    for key in (0..first).step_by(8) {
+        let keys = public_keys::<H>(origin, width, key);
+        fill_eight::<H>(origin.id, (first + key) as usize, &keys, nodes);
     }
 }
 
@@ -59,12 +58,12 @@ fn fill_inner<H: Hash>(id: Identifier, height: Height, nodes: &mut [Row])
 }
 
 // All nodes.
-fn fill<H: Hash>(id: Identifier, seed: Seed, height: Height, width: Width, nodes: &mut [Row])
+fn fill<H: Hash>(origin: Origin, height: Height, width: Width, nodes: &mut [Row])
     requires { length nodes.old ≡ 2 ^ levels height * 2 }
-    ensures { Filled H.Hash.hashed id.bytes seed.bytes (levels height) (bits width) 1 nodes.new }
+    ensures { Filled H.Hash.hashed origin.id.bytes origin.seed.bytes (levels height) (bits width) 1 nodes.new }
 {
-    fill_leaves::<H>(id, seed, height, width, nodes);
-    fill_inner::<H>(id, height, nodes);
+    fill_leaves::<H>(origin, height, width, nodes);
+    fill_inner::<H>(origin.id, height, nodes);
 }
 
 impl<H: Hash> Tree<H> {
@@ -73,18 +72,16 @@ impl<H: Hash> Tree<H> {
         heap: Global,
         height: Height,
         width: Width,
-        id: Identifier,
-        seed: Seed,
+        origin: Origin,
     ) -> Result<Tree<H>, AllocError>
-        ensures { IfOk result (λ t. (t.height ≡ height) × (t.width ≡ width) × (t.id ≡ id) × (t.seed ≡ seed) × Grown H.Hash.hashed t) }
+        ensures { IfOk result (λ t. (t.height ≡ height) × (t.width ≡ width) × (t.origin ≡ origin)) }
     {
         let mut nodes = vec![in heap; [0u8; 32]; 2 * height.keys() as usize]?;
-        fill::<H>(id, seed, height, width, &mut nodes);
+        fill::<H>(origin, height, width, &mut nodes);
         Ok(Tree {
             height,
             width,
-            id,
-            seed,
+            origin,
             nodes,
             hash: PhantomData,
         })

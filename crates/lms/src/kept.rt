@@ -1,20 +1,38 @@
 // A tree that was grown once, with all its nodes.
-ghost use Rattle.std.specs.Prelude.{◌≡◌, ◌*◌, ◌^◌, length};
-ghost use Rattle.sizes.specs.Sizes.{levels};
+ghost use Rattle.std.specs.Prelude.{◌≡◌};
 
 use hash::Hash;
-use rows::{Identifier, Row, Seed};
+use rows::{Origin, Row};
 use sizes::{Height, Width};
-use std::marker::PhantomData;
+use std::marker::{Model, PhantomData};
 
 // Node r stands at place r; place 0 is unused, and the root is node 1.
 #[derive(Drop)]
 pub struct Tree<H: Hash> {
     pub(crate) height: Height,
     pub(crate) width: Width,
-    pub(crate) id: Identifier,
-    pub(crate) seed: Seed,
+    pub(crate) origin: Origin,
     pub(crate) nodes: Vec<Row>,
     pub(crate) hash: PhantomData<H>,
-    ghost room: { length nodes.items ≡ 2 ^ levels height * 2 },
+}
+
+impl<H: Hash> Model for Tree<H> {
+    ghost use Rattle.sizes.specs.Sizes.{bits, levels};
+    ghost use Rattle.lms.specs.Grown.{Grown};
+    ghost use Rattle.lms.specs.Nodes.{Whole};
+
+    ghost Value = { Grown };
+
+    ghost view = { λ t. record { height = t.height; width = t.width; origin = t.origin } };
+
+    ghost invariant = { λ t. Whole H.Hash.hashed t.origin.id.bytes t.origin.seed.bytes (levels t.height) (bits t.width) t.nodes.items };
+}
+
+impl<H: Hash> Tree<H> {
+    // What the tree was grown from.
+    pub fn origin(&self) -> Origin
+        ensures { result ≡ self.now.origin }
+    {
+        self.origin
+    }
 }

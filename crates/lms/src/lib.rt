@@ -5,6 +5,7 @@ mod codes;
 mod growing;
 mod kept;
 mod laws;
+mod leaf;
 mod nodes;
 mod reading;
 mod refusal;

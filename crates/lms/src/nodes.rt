@@ -1,19 +1,16 @@
 // The nodes of a tree, each hashed from what stands below it.
-ghost use Rattle.std.specs.Prelude.{◌≡◌, ◌*◌, ◌≤◌, length};
-ghost use Rattle.rows.specs.Bytes.{row_at};
+ghost use Rattle.std.specs.Prelude.{◌≡◌, [], length, slice_index_or};
 ghost use Rattle.lms.specs.Lms.{climbed, inner_node, leaf_node};
 
 use hash::Hash;
-use rows::{Identifier, Row, row_at};
+use lmots::opened;
+use rows::{Identifier, Row};
 
 // The node of a leaf, from its one-time public key.
 pub(crate) fn leaf<H: Hash>(id: Identifier, r: u32, key: &Row) -> Row
     ensures { result ≡ leaf_node H.Hash.hashed id.bytes r key.now }
 {
-    let mut h = H::start();
-    h.feed(&id.bytes());
-    h.feed(&r.to_be_bytes());
-    h.feed(&[0x82, 0x82]);
+    let mut h = opened::<H>(id, r, 0x8282);
     h.feed(key);
     h.close()
 }
@@ -22,36 +19,25 @@ pub(crate) fn leaf<H: Hash>(id: Identifier, r: u32, key: &Row) -> Row
 pub(crate) fn inner<H: Hash>(id: Identifier, r: u32, left: &Row, right: &Row) -> Row
     ensures { result ≡ inner_node H.Hash.hashed id.bytes r left.now right.now }
 {
-    let mut h = H::start();
-    h.feed(&id.bytes());
-    h.feed(&r.to_be_bytes());
-    h.feed(&[0x83, 0x83]);
+    let mut h = opened::<H>(id, r, 0x8383);
     h.feed(left);
     h.feed(right);
     h.close()
 }
 
-// The node some levels above the node r, by the rows of a path.
-pub(crate) fn climb<H: Hash>(
-    id: Identifier,
-    levels: usize,
-    r: u32,
-    bottom: &Row,
-    path: &[u8],
-) -> Row
-    requires { 32 * levels ≤ length path.now }
-    ensures { result ≡ climbed H.Hash.hashed id.bytes (λ k. row_at k path.now) r bottom.now levels }
+// The node above the node r to which the rows of a path lead, from the lowest up.
+pub(crate) fn climb<H: Hash>(id: Identifier, r: u32, bottom: &Row, path: &[Row]) -> Row
+    ensures { result ≡ climbed H.Hash.hashed id.bytes (λ k. slice_index_or path.now k []) r bottom.now (length path.now) }
 {
     let mut x = *bottom;
     let mut number = r;
-    for k in 0..levels {
-        let next = row_at(path, 32 * k);
+    for next in path {
         x = if number % 2 == 1 {
-            inner::<H>(id, number / 2, &next, &x)
+            inner::<H>(id, number / 2, next, &x)
         } else {
-            inner::<H>(id, number / 2, &x, &next)
+            inner::<H>(id, number / 2, &x, next)
         };
-        number = number / 2;
+        number /= 2;
     }
     x
 }

@@ -1,7 +1,36 @@
 // What a call of this crate can refuse.
+ghost use Rattle.std.specs.Prelude.{◌≡◌};
+ghost use Rattle.lms.specs.Refusals.{number_of, of_one_time};
+
 #[derive(Clone, Copy, PartialEq, Eq, Debug)]
 pub enum Refusal {
+    // The tree has no such key.
     Key,
+    // A buffer has not its exact length.
     Buffer,
+    // The message has more than 65,536 bytes.
     Message,
+}
+
+impl Refusal {
+    // The public number.
+    pub fn number(&self) -> usize
+        ensures { result ≡ number_of self.now }
+    {
+        match self {
+            Refusal::Key => 9,
+            Refusal::Buffer => 20,
+            Refusal::Message => 12,
+        }
+    }
+}
+
+impl From<lmots::Refusal> for Refusal {
+    ghost from_gives = { λ x y. y ≡ of_one_time x };
+
+    fn from(refusal: lmots::Refusal) -> Refusal {
+        match refusal {
+            lmots::Refusal::Buffer => Refusal::Buffer,
+        }
+    }
 }

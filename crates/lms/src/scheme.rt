@@ -1,7 +1,8 @@
 // What a ring needs of a one-time scheme and its tree, and all that it may use of them.
 ghost use Rattle.std.specs.Prelude.{◌≡◌, ◌*◌, ◌≤◌, length, MatchResult, ◌==◌};
+ghost use Rattle.std.specs.Result.{result_err};
 ghost use Rattle.sizes.specs.Sizes.{bits, levels};
-ghost use Rattle.lms.specs.Numbers.{keyed, told};
+ghost use Rattle.lms.specs.Refusals.{keyed};
 ghost use Rattle.lms.specs.Scheme as spec;
 
 pub use crate::kept::Tree;
@@ -10,7 +11,7 @@ pub use crate::signing::{assemble, signature_length};
 use crate::verifier::verify;
 use hash::Hash;
 use lmots::{chain_count, digest_of, position_count, prefix_of, write_positions};
-use rows::{Identifier, Row, Seed};
+use rows::{Identifier, Origin, Row};
 use sizes::{Height, Width};
 
 // What holds of the scheme over this hash.
@@ -35,10 +36,10 @@ pub fn positions(width: Width) -> usize
 }
 
 // A key's prefix.
-pub fn prefix<H: Hash>(id: Identifier, seed: Seed, key: u32) -> Row
-    ensures { result ≡ spec.prefix H.Hash.hashed id.bytes seed.bytes key }
+pub fn prefix<H: Hash>(origin: Origin, key: u32) -> Row
+    ensures { result ≡ spec.prefix H.Hash.hashed origin.id.bytes origin.seed.bytes key }
 {
-    prefix_of::<H>(id, seed, key)
+    prefix_of::<H>(origin, key)
 }
 
 // The digest of identifier, key, prefix and message.
@@ -60,23 +61,20 @@ pub fn position(width: Width, digest: &Row, i: usize) -> u8
 pub fn write_components<H: Hash>(
     height: Height,
     width: Width,
-    id: Identifier,
-    seed: Seed,
+    origin: Origin,
     key: u32,
     out: &mut [u8],
 ) -> Result<(), Refusal>
-    ensures answer { told result ≡ keyed (levels height) key (length out.old == 32 * (spec.components (bits width) * spec.positions (bits width))) }
+    ensures answer { result_err result ≡ keyed (levels height) key (length out.old == 32 * (spec.components (bits width) * spec.positions (bits width))) }
     ensures written { MatchResult result
-        (λ _. out.new ≡ spec.all_components H.Hash.hashed id.bytes seed.bytes (bits width) key)
+        (λ _. out.new ≡ spec.all_components H.Hash.hashed origin.id.bytes origin.seed.bytes (bits width) key)
         (λ _. out.new ≡ out.old) }
 {
     if key >= height.keys() {
         return Err(Refusal::Key);
     }
-    match write_positions::<H>(id, seed, width, key, out) {
-        Ok(()) => Ok(()),
-        Err(lmots::Refusal::Buffer) => Err(Refusal::Buffer),
-    }
+    write_positions::<H>(origin, width, key, out)?;
+    Ok(())
 }
 
 // The verdict on a signature of a message.

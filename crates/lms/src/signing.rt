@@ -1,18 +1,19 @@
 // Signatures: laid out from given rows, and signed from a grown tree.
 ghost use Rattle.std.specs.Prelude.{◌≡◌, ◌*◌, ◌^◌, ◌<◌, ◌≤◌, true, ◌&&◌, ◌++◌, length, take, MatchResult, OnOk, ◌==◌};
+ghost use Rattle.std.specs.Result.{result_err};
 ghost use Rattle.rows.specs.Bytes.{u32str};
 ghost use Rattle.sizes.specs.Sizes.{bits, levels};
 ghost use Rattle.lmots.specs.LmOts.{p};
-ghost use Rattle.lms.specs.Grown.{Grown, held_signature, tall, true_root, true_signature, wide};
+ghost use Rattle.lms.specs.Grown.{grown_root, grown_signature, tall, wide};
 ghost use Rattle.lms.specs.Lms.{accepts, layout, ots_code, signature_length};
-ghost use Rattle.lms.specs.Numbers.{keyed, signing, told};
+ghost use Rattle.lms.specs.Refusals.{keyed, signing};
 
 use crate::codes::{ots_code, tree_code};
 use crate::kept::Tree;
 use crate::refusal::Refusal;
 use crate::verifier::LONGEST;
 use hash::Hash;
-use lmots::{chain_count, digest_of, prefix_of, write_selected};
+use lmots::chain_count;
 use rows::{Row, put};
 use sizes::{Height, Width};
 
@@ -25,7 +26,7 @@ pub fn signature_length(height: Height, width: Width) -> usize
 }
 
 // The first 40 bytes of a signature.
-fn write_head<H: Hash>(width: Width, key: u32, prefix: &Row, out: &mut [u8])
+pub(crate) fn write_head<H: Hash>(width: Width, key: u32, prefix: &Row, out: &mut [u8])
     requires { 40 ≤ length out.old }
     ensures { take 40 out.new ≡ u32str key ++ u32str (ots_code H.Hash.ots (bits width)) ++ prefix.now }
 {
@@ -44,7 +45,7 @@ pub fn assemble<H: Hash>(
     path: &[u8],
     out: &mut [u8],
 ) -> Result<(), Refusal>
-    ensures answer { told result ≡ keyed (levels height) key ((length components.now == 32 * p (bits width))
+    ensures answer { result_err result ≡ keyed (levels height) key ((length components.now == 32 * p (bits width))
         && length path.now == 32 * levels height && length out.old == signature_length (levels height) (bits width)) }
     ensures written { MatchResult result
         (λ _. out.new ≡ layout H.Hash.ots H.Hash.tree (levels height) (bits width) key prefix.now components.now path.now)
@@ -68,61 +69,23 @@ pub fn assemble<H: Hash>(
 }
 
 impl<H: Hash> Tree<H> {
-    // What signing refuses.
-    fn check(&self, key: u32, message: &[u8], room: usize) -> Result<(), Refusal>
-        ensures answer { told result ≡ signing (tall self.now) (wide self.now) key (length message.now) room }
-        ensures passed { OnOk result ((key < 2 ^ tall self.now)
-            × (room ≡ signature_length (tall self.now) (wide self.now)) × (length message.now ≤ 65536)) }
+    // Writes the signature of a message by one key over all of a buffer.
+    pub fn sign(&self, key: u32, message: &[u8], out: &mut [u8]) -> Result<(), Refusal>
+        ensures answer { result_err result ≡ signing (tall self.now) (wide self.now) key (length message.now) (length out.old) }
+        ensures written { MatchResult result
+            (λ _. out.new ≡ grown_signature H.Hash.hashed H.Hash.ots H.Hash.tree self.now key message.now)
+            (λ _. out.new ≡ out.old) }
+        ensures accepted { OnOk result (accepts H.Hash.hashed H.Hash.ots H.Hash.tree
+            (grown_root H.Hash.hashed H.Hash.ots H.Hash.tree self.now) message.now out.new ≡ true) }
     {
-        if key >= self.height.keys() {
-            return Err(Refusal::Key);
-        }
-        if room != signature_length(self.height, self.width) {
+        let leaf = self.leaf(key).ok_or(Refusal::Key)?;
+        if out.len() != signature_length(self.height, self.width) {
             return Err(Refusal::Buffer);
         }
         if message.len() > LONGEST {
             return Err(Refusal::Message);
         }
-        Ok(())
-    }
-
-    // The signature, with nothing left to refuse.
-    fn write_signature(&self, key: u32, message: &[u8], out: &mut [u8])
-        requires small { key < 2 ^ tall self.now }
-        requires room { length out.old ≡ signature_length (tall self.now) (wide self.now) }
-        ensures held { out.new ≡ held_signature H.Hash.hashed H.Hash.ots H.Hash.tree self.now key message.now }
-        ensures named { length self.now.id.bytes ≡ 16 }
-    {
-        let prefix = prefix_of::<H>(self.id, self.seed, key);
-        let digest = digest_of::<H>(self.id, key, &prefix, message);
-        let end = 40 + 32 * chain_count(self.width);
-        write_head::<H>(self.width, key, &prefix, out);
-        let _ = write_selected::<H>(
-            self.id,
-            self.seed,
-            self.width,
-            key,
-            &digest,
-            &mut out[40..end],
-        );
-        put(out, end, &tree_code::<H>(self.height).to_be_bytes());
-        self.write_siblings(key, &mut out[end + 4..]);
-    }
-
-    // Writes the signature of a message by one key over all of a buffer.
-    pub fn sign(&self, key: u32, message: &[u8], out: &mut [u8]) -> Result<(), Refusal>
-        ensures answer { told result ≡ signing (tall self.now) (wide self.now) key (length message.now) (length out.old) }
-        ensures held { MatchResult result
-            (λ _. out.new ≡ held_signature H.Hash.hashed H.Hash.ots H.Hash.tree self.now key message.now)
-            (λ _. out.new ≡ out.old) }
-        ensures grown { Grown H.Hash.hashed self.now →
-            OnOk result (out.new ≡ true_signature H.Hash.hashed H.Hash.ots H.Hash.tree self.now key message.now) }
-        ensures accepted { Grown H.Hash.hashed self.now →
-            OnOk result (accepts H.Hash.hashed H.Hash.ots H.Hash.tree
-            (true_root H.Hash.hashed H.Hash.ots H.Hash.tree self.now) message.now out.new ≡ true) }
-    {
-        self.check(key, message, out.len())?;
-        self.write_signature(key, message, out);
+        leaf.write_signature(message, out);
         Ok(())
     }
 }

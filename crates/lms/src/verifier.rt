@@ -20,7 +20,7 @@ fn u32_at(bytes: &[u8], at: usize) -> u32
     requires { at + 4 ≤ length bytes.now }
     ensures { result ≡ str_to_u32 (part at 4 bytes.now) }
 {
-    u32::from_be_bytes([bytes[at], bytes[at + 1], bytes[at + 2], bytes[at + 3]])
+    u32::from_be_bytes(*bytes[at..].first_chunk().unwrap())
 }
 
 // The identifier in a root.
@@ -28,9 +28,7 @@ fn identifier_of(root: &[u8]) -> Identifier
     requires { 24 ≤ length root.now }
     ensures { result.bytes ≡ part 8 16 root.now }
 {
-    let mut bytes = [0; 16];
-    bytes.copy_from_slice(&root[8..24]);
-    Identifier::new(bytes)
+    Identifier::new(*root[8..].first_chunk().unwrap())
 }
 
 // The topmost node to which a signature leads.
@@ -52,13 +50,7 @@ fn candidate_root<H: Hash>(
     let end = 40 + 32 * chain_count(width);
     let r = height.keys() + q;
     match candidate_key::<H>(id, width, q, &digest, &sig[40..end]) {
-        Ok(key) => climb::<H>(
-            id,
-            height.levels(),
-            r,
-            &leaf::<H>(id, r, &key),
-            &sig[end + 4..sig.len()],
-        ),
+        Ok(key) => climb::<H>(id, r, &leaf::<H>(id, r, &key), sig[end + 4..].as_chunks().0),
         Err(_) => unreachable(),
     }
 }

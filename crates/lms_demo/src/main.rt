@@ -2,16 +2,18 @@
 #![tactic(auto)]
 
 use lms::{Tree, verify};
-use rows::{Identifier, Seed};
+use rows::{Identifier, Origin, Seed};
 use sha256::Hasher;
 use sizes::{Height, Width};
 use std::io;
 
 fn main(rt: HostRuntime) -> io::Result<()> {
     let heap = rt.alloc();
-    let id = Identifier::new([0x1d; 16]);
-    let seed = Seed::new([0x5e; 32]);
-    let tree = Tree::<Hasher>::grow(heap, Height::Five, Width::Eight, id, seed)?;
+    let origin = Origin {
+        id: Identifier::new([0x1d; 16]),
+        seed: Seed::new([0x5e; 32]),
+    };
+    let tree = Tree::<Hasher>::grow(heap, Height::Five, Width::Eight, origin)?;
     let root = tree.root();
     println!(rt; "root {root:?}")?;
 

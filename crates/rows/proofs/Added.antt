@@ -1,8 +1,6 @@
 -- Rows added to rows.
-use Rattle.std.proofs.Common.{◌≡◌, ℕ, zero, suc, ◌+◌, ◌<◌, ◌≤◌, List, [], ◌∷◌, length, get_or, set, sym, refl, ap, ◌∙◌, ap₂, ⊎_elim, arith}
+use Rattle.std.proofs.Common.{◌≡◌, ℕ, zero, suc, ◌<◌, List, [], ◌∷◌, length, get_or, sym, refl, ap, ◌∙◌, ap₂, arith}
 use lib.Bits.{bit_xor, xor_assoc, xor_self, xor_comm, xor_zero_r}
-use Rattle.std.proofs.lemmas.List.{same_lists, get_or-set_same, get_or-set_other, length-set}
-use Rattle.std.proofs.lemmas.Bool.{cases_eq, cases_lt}
 use Rattle.rows.specs.Bytes.{xored}
 use Rattle.rows.specs.Laws.{Sums}
 
@@ -48,24 +46,3 @@ pub get_d_any : (xs : List ℕ) (i d e : ℕ) → i < length xs → get_or xs i 
 get_d_any [] i d e l = absurd (omega arith)
 get_d_any (x ∷ xs) zero d e l = refl
 get_d_any (x ∷ xs) (suc i) d e l = get_d_any xs i d e (omega arith)
-
--- the first n bytes are added, and the others are not yet
-abbrev pub Added : List ℕ → List ℕ → ℕ → List ℕ → Type 0
-Added a b n row = (length row ≡ 32) × ((j d : ℕ) → j < n → get_or row j d ≡ bit_xor (get_or a j d) (get_or b j d)) × ((j d : ℕ) → n ≤ j → get_or row j d ≡ get_or a j d)
-
-pub added_more : (a b row : List ℕ) (n new : ℕ) → n < 32 → ((d : ℕ) → new ≡ bit_xor (get_or row n d) (get_or b n d)) → Added a b n row → Added a b (n + 1) (set row n new)
-added_more a b row n new l e (long, done, todo) = (
-  length-set row n new ∙ long,
-  (λ j d m. ⊎_elim
-      (λ (same : j ≡ n). ap (λ i. get_or (set row n new) i d) same ∙ get_or-set_same row n new d (omega arith) ∙ e d ∙ ap (λ x. bit_xor x (get_or b n d)) (todo n d (omega arith)) ∙ ap (λ i. bit_xor (get_or a i d) (get_or b i d)) (sym same))
-      (λ (other : j ≡ n → ⊥). get_or-set_other row n j new d other ∙ done j d (below j other m))
-      (cases_eq j n)),
-  (λ j d m. get_or-set_other row n j new d (λ same. omega arith) ∙ todo j d (omega arith)),
-)
-  where
-    below : (i : ℕ) → (i ≡ n → ⊥) → i < n + 1 → i < n
-    below i other m = ⊎_elim (λ (l : i < n). l) (λ (g : n ≤ i). absurd (other (omega arith))) (cases_lt i n)
-
-pub added_all : (a b row : List ℕ) (n : ℕ) → length a ≡ 32 → length b ≡ 32 → 32 ≤ n → Added a b n row → row ≡ xored a b
-added_all a b row n la lb l (long, done, todo) =
-    same_lists row (xored a b) (long ∙ sym (length_xored a b ∙ la)) (λ j d m. done j d (omega arith) ∙ sym (get_or_xored a b j d (omega arith) (lb ∙ sym la)))

@@ -1,3 +1,4 @@
+pub mod Arrays
 pub mod Rows
 pub mod Numbers
 pub mod Writing

@@ -1,8 +1,9 @@
 -- Rows of 32 bytes, and the parts of a byte string.
-use Rattle.std.proofs.Common.{◌≡◌, ℕ, zero, suc, ◌+◌, ◌-◌, ◌*◌, ◌<◌, ◌≤◌, List, [], ◌++◌, length, take, drop, sym, refl, ap, ◌∙◌, ap₂, inl, inr, append_assoc, append-nil, add-one, arith, length-append, length-drop, take-add}
+use Rattle.std.proofs.Common.{◌≡◌, ℕ, zero, suc, ◌+◌, ◌-◌, ◌*◌, ◌<◌, ◌≤◌, List, [], ◌++◌, length, get_or, take, drop, sym, refl, ap, ◌∙◌, ap₂, inl, inr, append_assoc, append-nil, add-one, arith, length-append, length-drop, take-add}
 use borrow.Rule.Slice.PartMut.{put_mid}
 use Rattle.std.proofs.lemmas.List.{take_at, drop_at, drop-drop, take_all, take-append-drop, length-take-le}
 use Rattle.std.proofs.lemmas.Bool.{cases_lt}
+use Rattle.std.specs.Simd.{first_chunks}
 use Rattle.rows.specs.Bytes.{part, row_at, rows}
 
 pub rows_none : (f : ℕ → List ℕ) → rows 0 f ≡ []
@@ -80,3 +81,11 @@ placed out bytes new at e =
     ap₂ (λ x k. take at out ++ (x ++ drop k (drop at out))) e n
     ∙ ap (λ t. take at out ++ (bytes ++ t)) (drop-drop (length bytes) at out)
     ∙ sym (append_assoc (take at out) bytes (drop (at + length bytes) out))
+
+-- the chunks of 32 bytes of a string are its rows
+pub row_of_chunks : (s : List ℕ) (n k : ℕ) → k < n → get_or (first_chunks 32 n s) k [] ≡ row_at k s
+row_of_chunks s zero k h = absurd (omega arith)
+row_of_chunks s (suc n) zero h = refl
+row_of_chunks s (suc n) (suc k) h =
+    let e : 32 * k + 32 ≡ 32 * suc k = omega arith in
+    row_of_chunks (drop 32 s) n k (omega arith) ∙ ap (take 32) (drop-drop (32 * k) 32 s ∙ ap (λ m. drop m s) (omega arith))

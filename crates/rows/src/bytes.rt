@@ -9,11 +9,13 @@ pub fn row_at(bytes: &[u8], at: usize) -> Row
     ensures inside { at + 32 ≤ length bytes.now → result ≡ part at 32 bytes.now }
     ensures outside { length bytes.now < at + 32 → result ≡ replicate 32 0 }
 {
-    let mut row = [0; 32];
-    if at <= bytes.len() && bytes.len() - at >= 32 {
-        row.copy_from_slice(&bytes[at..at + 32]);
+    if at > bytes.len() {
+        return [0; 32];
     }
-    row
+    match bytes[at..].first_chunk() {
+        Some(row) => *row,
+        None => [0; 32],
+    }
 }
 
 // Writes bytes from a place on; where they do not fit, nothing is written.

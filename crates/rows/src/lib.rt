@@ -3,10 +3,12 @@
 
 mod bytes;
 mod identifier;
+mod origin;
 mod seed;
 mod sums;
 
 pub use bytes::{Row, put, put_row, row_at};
 pub use identifier::Identifier;
+pub use origin::Origin;
 pub use seed::Seed;
 pub use sums::{add_row, sum};

@@ -4,17 +4,14 @@ ghost use Rattle.rows.specs.Bytes.{row_at, xored};
 ghost use Rattle.rows.specs.Laws.{Sums};
 
 use crate::bytes::{Row, put_row, row_at};
+use std::array;
 
 // The sum of two rows. Adding a row twice undoes it, and rows may be added in any order.
 pub fn sum(a: &Row, b: &Row) -> Row
     ensures value { result ≡ xored a.now b.now }
     ensures laws { Sums }
 {
-    let mut row = *a;
-    for i in 0..32 {
-        row[i] ^= b[i];
-    }
-    row
+    array::from_fn(|i| a[i] ^ b[i])
 }
 
 // Adds a row to row number k of a buffer; where the buffer has no such row, nothing is written.

@@ -1,4 +1,4 @@
-use Rattle.std.proofs.Common.{◌≡◌, ◌+◌, ◌-◌, ◌*◌, ◌^◌, length, sym, ap, ◌∙◌, ap₂, inl, inr, arith}
+use Rattle.std.proofs.Common.{◌≡◌, ℕ, ◌+◌, ◌-◌, ◌*◌, ◌^◌, ◌<◌, List, length, sym, ap, ◌∙◌, ap₂, inl, inr, arith}
 use Rattle.std.proofs.lemmas.Nat.{pow_pos}
 use Rattle.std.proofs.lemmas.Bool.{cases_lt}
 use Rattle.rows.specs.Bytes.{row_at}
@@ -7,26 +7,45 @@ use Rattle.lmots.specs.LmOts.{X, p}
 use Rattle.lmots.proofs.Cells.{cells_whole}
 use Rattle.lmots.proofs.deal.write_positions.Goals as goal
 
-pub loop-b-preserved : goal.loop-b-preserved
-loop-b-preserved g c i j h o z =
-    let a = c.args in
-    let f = 8 * c.loop-b.b in
+-- the chains below f, and eight more
+more : (B count f : ℕ) (x : ℕ → ℕ → List ℕ) (out new : List ℕ) →
+    ((i j : ℕ) → i < f → i < count → j < B → row_at (i * B + j) out ≡ x i j) →
+    ((l j : ℕ) → l < 8 → f + l < count → j < B → row_at ((f + l) * B + j) new ≡ x (f + l) j) →
+    ((i j : ℕ) → i < f → j < B → row_at (i * B + j) new ≡ row_at (i * B + j) out) →
+    (i j : ℕ) → i < f + 8 → i < count → j < B → row_at (i * B + j) new ≡ x i j
+more B count f x out new before eight old i j h o z =
     elim (cases_lt i f) [
-      | inl l ↦ c.write_chains.ensures.old i j l z ∙ c.loop-b.invariant i j l o z
+      | inl l ↦ old i j l z ∙ before i j l o z
       | inr l ↦
           let e : f + (i - f) ≡ i = omega arith in
-          ap (λ n. row_at (n * 2 ^ bits a.width + j) c.write_chains.new.out) (sym e)
-          ∙ c.write_chains.ensures.new (i - f) j (omega arith) (omega arith) z
-          ∙ ap (λ n. X g.H.Hash.hashed a.id.bytes a.seed.bytes a.q n j) e
+          ap (λ n. row_at (n * B + j) new) (sym e) ∙ eight (i - f) j (omega arith) (omega arith) z ∙ ap (λ n. x n j) e
     ]
 
-pub returns : goal.returns
-returns g c =
+pub loop-first-preserved : goal.loop-first-preserved
+loop-first-preserved g c =
+    let a = c.args in
+    more (2 ^ bits a.width) (p (bits a.width)) c.loop-first.first (X g.H.Hash.hashed a.origin.id.bytes a.origin.seed.bytes a.q) c.loop-first.out c.write_chains.new.out
+    c.loop-first.invariant c.write_chains.ensures.new c.write_chains.ensures.old
+
+pub returns-else-out-count : goal.returns-else-out-count
+returns-else-out-count g c =
     let a = c.args in
     let w = bits a.width in
     let e = ap₂ (λ m n. 32 * (m * n)) c.chain_count-count.ensures.value c.position_count.ensures.value in
     let l : length a.out.now ≡ 32 * (p w * 2 ^ w) = omega arith in (
       l,
-      cells_whole (2 ^ w) (p w) (X g.H.Hash.hashed a.id.bytes a.seed.bytes a.q) c.loop-b.out (pow_pos w) (c.loop-b.auto.out ∙ l)
-          (λ i j h z. c.loop-b.invariant i j (omega arith) h z),
+      cells_whole (2 ^ w) (p w) (X g.H.Hash.hashed a.origin.id.bytes a.origin.seed.bytes a.q) c.loop-first.out (pow_pos w) (c.loop-first.auto.out ∙ l)
+          (λ i j h z. c.loop-first.invariant i j (omega arith) h z),
+    )
+
+pub returns-else-out-count-2 : goal.returns-else-out-count-2
+returns-else-out-count-2 g c =
+    let a = c.args in
+    let w = bits a.width in
+    let e = ap₂ (λ m n. 32 * (m * n)) c.chain_count-count.ensures.value c.position_count.ensures.value in
+    let l : length a.out.now ≡ 32 * (p w * 2 ^ w) = omega arith in
+    let x = X g.H.Hash.hashed a.origin.id.bytes a.origin.seed.bytes a.q in (
+      l,
+      cells_whole (2 ^ w) (p w) x c.write_chains.new.out (pow_pos w) (c.write_chains.auto.out ∙ c.loop-first.auto.out ∙ l)
+          (λ i j h z. more (2 ^ w) (p w) c.loop-first.first x c.loop-first.out c.write_chains.new.out c.loop-first.invariant c.write_chains.ensures.new c.write_chains.ensures.old i j (omega arith) h z),
     )

@@ -1,5 +1,6 @@
-use Rattle.std.proofs.Common.{◌≡◌, ℕ, ◌+◌, ◌-◌, ◌*◌, ◌^◌, ◌≤◌, ◌++◌, length, sym, ap, ◌∙◌, arith}
+use Rattle.std.proofs.Common.{◌≡◌, ℕ, ◌-◌, ◌/◌, ◌^◌, [], ◌++◌, length, get_or, sym, ap, ◌∙◌, arith}
 use Rattle.rows.specs.Bytes.{u16str, u32str, rows, row_at}
+use Rattle.rows.proofs.Rows.{row_of_chunks}
 use Rattle.sizes.specs.Sizes.{bits}
 use Rattle.lmots.specs.LmOts.{p, coef, chain, digit, one_time_key}
 use Rattle.lmots.proofs.Chains.{coef_below}
@@ -21,10 +22,10 @@ loop-i-preserved g c =
     let i = c.loop-i.i in
     let f = λ (i : ℕ). chain g.H.Hash.hashed a.id.bytes a.q i (digit w D i) (2 ^ w - 1 - digit w D i) (row_at i a.rows.now) in
     let d : c.digit_at.result ≡ digit w D i = c.digit_at.ensures ∙ ap (λ s. coef w s i) c.with_checksum-digits.ensures in
-    let o : 32 * i + 32 ≤ length a.rows.now = omega arith in
+    let y : get_or c.as_chunks.result.0.now i [] ≡ row_at i a.rows.now = ap (λ s. get_or s i []) c.as_chunks.ensures.front ∙ row_of_chunks a.rows.now (length a.rows.now / 32) i (omega arith) in
     let z : c.walk-end.result ≡ f i =
     c.walk-end.ensures
-    ∙ (λ j. chain g.H.Hash.hashed a.id.bytes a.q i (d j) (c.last_position-top.ensures j - d j) (c.row_at-y.ensures.inside o j)) in
+    ∙ (λ j. chain g.H.Hash.hashed a.id.bytes a.q i (d j) (c.last_position-top.ensures j - d j) (y j)) in
     fed_more g.H.Hash.first g.H.Hash.fed g.met.H.Hash.joined (a.id.bytes ++ u32str a.q ++ u16str 0x8080) f i c.feed.ensures c.loop-i.invariant z
 
 pub returns : goal.returns

@@ -1,27 +1,26 @@
-use Rattle.std.proofs.Common.{◌≡◌, ℕ, ◌+◌, ◌-◌, ◌%◌, ◌^◌, [], get_or, ap, ◌∙◌, arith, rules}
+use Rattle.std.proofs.Common.{◌≡◌, ℕ, ◌+◌, ◌-◌, ◌%◌, ◌^◌, ◌≤◌, [], length, get_or, take, ap, ◌∙◌, arith, rules}
+use Rattle.std.proofs.lemmas.List.{get_or-take, length-take-le}
 use Rattle.rows.specs.Bytes.{rows}
 use Rattle.rows.proofs.Rows.{rows_same}
 use Rattle.sizes.specs.Sizes.{bits}
 use Rattle.lmots.specs.LmOts.{X, p, one_time_key}
-use Rattle.lmots.proofs.Eight.{fill_more}
+use Rattle.rows.proofs.Arrays.{made}
 use Rattle.lmots.proofs.keys.public_keys.Goals as goal
-
-pub loop-l-preserved : goal.loop-l-preserved
-loop-l-preserved g c =
-    let a = c.args in (
-      search rules,
-      fill_more
-          (λ k x. x ≡ one_time_key g.H.Hash.hashed a.id.bytes ((a.first + k) % 2 ^ 32) (rows c.chain_count-count.result (λ i. get_or (get_or c.chain_ends-ends.result i []) k [])))
-          c.loop-l.keys c.loop-l.l c.key_of_lane.result [] (omega arith) c.loop-l.invariant.1 c.key_of_lane.ensures,
-    )
 
 pub returns : goal.returns
 returns g c k h =
     let a = c.args in
     let w = bits a.width in
     let q = (a.first + k) % 2 ^ 32 in
-    let f = λ (i : ℕ). get_or (get_or c.chain_ends-ends.result i []) k [] in
-    c.loop-l.invariant.1 k (omega arith)
-    ∙ ap (one_time_key g.H.Hash.hashed a.id.bytes q)
-    (ap (λ n. rows n f) c.chain_count-count.ensures.value
-    ∙ rows_same (p w) f (λ i. X g.H.Hash.hashed a.id.bytes a.seed.bytes q i (2 ^ w - 1)) (λ i o. c.chain_ends-ends.ensures i k o h))
+    let all = c.chain_ends-all.result in
+    let n = c.chain_count.result in
+    let ends = take n all in
+    let f = λ (i : ℕ). get_or (get_or ends i []) k [] in
+    let few : n ≤ length all = search rules in
+    let long : length ends ≡ p w = length-take-le n all few ∙ c.chain_count.ensures.value in
+    made _ 8 (λ k v. v ≡ one_time_key g.H.Hash.hashed a.origin.id.bytes ((a.first + k) % 2 ^ 32) (rows (length ends) (λ i. get_or (get_or ends i []) k []))) _
+    (λ k r q b called. search rules) c.from_fn.result c.from_fn.ensures.items k [] h
+    ∙ ap (one_time_key g.H.Hash.hashed a.origin.id.bytes q)
+    (ap (λ n. rows n f) long
+    ∙ rows_same (p w) f (λ i. X g.H.Hash.hashed a.origin.id.bytes a.origin.seed.bytes q i (2 ^ w - 1))
+    (λ i o. ap (λ r. get_or r k []) (get_or-take n all i [] (omega (arith, c.chain_count.ensures.value))) ∙ c.chain_ends-all.ensures i k o h))

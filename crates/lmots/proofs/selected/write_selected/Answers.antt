@@ -13,10 +13,10 @@ loop-i-preserved g c =
     let w = bits a.width in
     let D = a.digest.now in
     let i = c.loop-i.i in
-    let f = λ (k : ℕ). X g.H.Hash.hashed a.id.bytes a.seed.bytes a.q k (digit w D k) in
+    let f = λ (k : ℕ). X g.H.Hash.hashed a.origin.id.bytes a.origin.seed.bytes a.q k (digit w D k) in
     let d : c.digit_at.result ≡ digit w D i = c.digit_at.ensures ∙ ap (λ s. coef w s i) c.with_checksum-digits.ensures in
     let y : c.walk-y.result ≡ f i =
-    c.walk-y.ensures ∙ (λ j. chain g.H.Hash.hashed a.id.bytes a.q i 0 (sub-zero (d j) j) (c.chain_start-x.ensures j)) in
+    c.walk-y.ensures ∙ (λ j. chain g.H.Hash.hashed a.origin.id.bytes a.q i 0 (sub-zero (d j) j) (c.chain_start-x.ensures j)) in
     below_more (λ k. row_at k c.put_row.new.out ≡ f k) i (λ k h. c.put_row.ensures.old k (λ e. omega arith) ∙ c.loop-i.invariant k h) (c.put_row.ensures.new (omega arith) ∙ y)
 
 pub returns : goal.returns
@@ -25,6 +25,6 @@ returns g c =
     let w = bits a.width in
     let l : length a.out.now ≡ 32 * p w = omega arith in (
       l,
-      rows_whole c.loop-i.out (p w) (λ k. X g.H.Hash.hashed a.id.bytes a.seed.bytes a.q k (digit w a.digest.now k)) (c.loop-i.auto.out ∙ l)
+      rows_whole c.loop-i.out (p w) (λ k. X g.H.Hash.hashed a.origin.id.bytes a.origin.seed.bytes a.q k (digit w a.digest.now k)) (c.loop-i.auto.out ∙ l)
           (λ k h. c.loop-i.invariant k (omega arith)),
     )

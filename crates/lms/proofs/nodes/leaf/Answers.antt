@@ -7,4 +7,4 @@ unfolding leaf_node
 returns g c =
     let m = g.met.H.Hash in
     c.close.ensures
-    ∙ simp (c.feed-4.ensures, c.feed-3.ensures, c.feed-2.ensures, c.feed.ensures, c.bytes.ensures, c.to_be_bytes.ensures, c.start-h.ensures, m.joined, m.whole)
+    ∙ simp (c.feed.ensures, c.opened-h.ensures, m.joined, m.whole)

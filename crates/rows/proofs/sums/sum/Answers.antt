@@ -1,18 +1,23 @@
-use Rattle.std.proofs.Common.{◌≡◌, length, ap₂, arith, rules}
+use Rattle.std.proofs.Common.{◌≡◌, length, get_or, sym, ◌∙◌, ap₂, arith, rules}
+use Rattle.std.proofs.lemmas.List.{same_lists}
 use lib.Bits.{bit_xor}
-use Rattle.rows.proofs.Added.{get_d_any, sums, added_more, added_all}
+use Rattle.rows.specs.Bytes.{xored}
+use Rattle.rows.proofs.Arrays.{made}
+use Rattle.rows.proofs.Added.{get_d_any, get_or_xored, length_xored, sums}
 use Rattle.rows.proofs.sums.sum.Goals as goal
 
-pub loop-i-preserved : goal.loop-i-preserved
-loop-i-preserved c =
-    let b = c.args.b.now in
-    let i = c.loop-i.i in
-    let long : length b ≡ 32 = search rules in
-    added_more c.args.a.now b c.loop-i.row i _ (omega arith)
-    (λ d. ap₂ bit_xor (get_d_any c.loop-i.row i 0 d (omega (arith, c.loop-i.invariant.0))) (get_d_any b i 0 d (omega (arith, long)))) c.loop-i.invariant
-
 pub returns : goal.returns
-returns c = record {
-  value = added_all c.args.a.now c.args.b.now c.loop-i.row c.loop-i.i (search rules) (search rules) (omega arith) c.loop-i.invariant;
-  laws = sums;
-}
+returns c =
+    let a = c.args.a.now in
+    let b = c.args.b.now in
+    let ys = c.from_fn.result in
+    let la : length a ≡ 32 = search rules in
+    let lb : length b ≡ 32 = search rules in
+    let ly : length ys ≡ 32 = search rules in
+    record {
+      value = same_lists ys (xored a b) (ly ∙ sym (length_xored a b ∙ la))
+      (λ j d m.
+      made _ 32 (λ k v. v ≡ bit_xor (get_or a k 0) (get_or b k 0)) _ (λ k r q l called. search rules) ys c.from_fn.ensures.items j d (omega arith)
+      ∙ ap₂ bit_xor (get_d_any a j 0 d (omega arith)) (get_d_any b j 0 d (omega arith)) ∙ sym (get_or_xored a b j d (omega arith) (lb ∙ sym la)));
+      laws = sums;
+    }

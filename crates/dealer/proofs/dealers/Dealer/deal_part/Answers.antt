@@ -1,5 +1,4 @@
-use Rattle.std.proofs.Common.{◌≡◌, ◌-◌, ◌≤◌, map, length, None, sym, ap, ◌∙◌, arith, rules}
-use borrow.Rule.Slice.PartMut.{put_mid}
+use Rattle.std.proofs.Common.{◌≡◌, ◌-◌, map, length, None, sym, ap, ◌∙◌, arith}
 use Rattle.std.specs.Option.{option_map}
 use Rattle.std.proofs.lemmas.Result.{err_from_is_err_and}
 use Rattle.rows.specs.Bytes.{part}
@@ -14,7 +13,7 @@ use Rattle.dealer.specs.Tabled.{tabled}
 use Rattle.plan.proofs.Found.{plan_ranges}
 use Rattle.layout.proofs.Lying.{places}
 use Rattle.dealer.proofs.Tabling.{tabling}
-use Rattle.dealer.proofs.Placing.{same_refusal, is_whole, put_back, put_there, put_over, is_tabled, both}
+use Rattle.dealer.proofs.Placing.{same_refusal, is_whole, put_in, put_back, is_tabled, both}
 use Rattle.dealer.proofs.dealers.Dealer.deal_part.Goals as goal
 
 pub returns-in_err-key_sheet : goal.returns-in_err-key_sheet
@@ -23,15 +22,14 @@ returns-in_err-key_sheet g c =
     let p = view c.args.self.now.plan in
     let sources = map g.P.Pads.source c.args.sources.now in
     let table = c.args.table.now in
-    let a = c.part_range-start.result.0 in
-    let e = c.part_range-start.result.1 in
-    let size : e - a ≡ part_size p c.args.key (length table) = omega (arith, c.part_range-start.ensures.start, c.part_range-start.ensures.end) in
-    let slice : length (part a (e - a) table) ≡ e - a = length_part table a (e - a) (omega (arith, c.part_range-start.ensures.inside.0, c.part_range-start.ensures.inside.1)) in
+    let a = c.part_range-range.result.start in
+    let e = c.part_range-range.result.end in
+    let size : e - a ≡ part_size p c.args.key (length table) = omega (arith, c.part_range-range.ensures.start, c.part_range-range.ensures.end) in
+    let slice : length (part a (e - a) table) ≡ e - a = length_part table a (e - a) (omega (arith, c.part_range-range.ensures.inside.0, c.part_range-range.ensures.inside.1)) in
     let refused = c.in_err-key_sheet.ensures in
     record {
       answer = rw (q.1, q.2) (refused.answer ∙ ap (λ n. option_map handed_on (refusal p sources c.args.key n)) (slice ∙ size) ∙ ap (option_map handed_on) (same_refusal p sources c.args.key (length table)));
-      held = rw q.1 (put_back a e table c.key_sheet.new.out (ap length refused.held ∙ slice) refused.held);
-      dealt = λ ready. rw q.1 tt;
+      written = rw q.1 (put_back a e table c.key_sheet.new.out (ap length refused.written ∙ slice) refused.written);
       tables = tabling p (plan_ranges c.args.self.now.plan) (places p (plan_ranges c.args.self.now.plan));
     }
 
@@ -39,30 +37,24 @@ pub returns : goal.returns
 returns g c =
     let d = c.args.self.now in
     let p = view d.plan in
-    let H = g.H.Hash.hashed in
     let sources = map g.P.Pads.source c.args.sources.now in
     let key = c.args.key in
     let table = c.args.table.now in
-    let a = c.part_range-start.result.0 in
-    let e = c.part_range-start.result.1 in
+    let a = c.part_range-range.result.start in
+    let e = c.part_range-range.result.end in
     let sheet = c.key_sheet.new.out in
     let bytes = c.split.new.rows in
-    let inside : (a ≤ e) × (e ≤ length table) = (c.part_range-start.ensures.inside.0, c.part_range-start.ensures.inside.1) in
-    let size : e - a ≡ part_size p key (length table) = omega (arith, c.part_range-start.ensures.start, c.part_range-start.ensures.end) in
-    let ls : length sheet ≡ e - a = search rules in
-    let lb : length bytes ≡ e - a = search rules in
-    let there = put_there a e table sheet (omega (arith, inside.0, inside.1)) ls in
-    let did = answered (refusal p sources key _) (split_for p sources key _ (owner p key)) bytes c.in_ok-split.ensures.answer in
-    let slice = put_mid a (e - a) table sheet in
-    let none : refusal p sources key (part_size p key (length table)) ≡ None = ap (refusal p sources key) (sym (ap length there ∙ ls ∙ size)) ∙ did.0 in
+    let size : e - a ≡ part_size p key (length table) = omega (arith, c.part_range-range.ensures.start, c.part_range-range.ensures.end) in
+    let slice : length (part a (e - a) table) ≡ e - a = length_part table a (e - a) (omega (arith, c.part_range-range.ensures.inside.0, c.part_range-range.ensures.inside.1)) in
+    let ls : length sheet ≡ e - a = c.key_sheet.auto.out ∙ slice in
+    let lb : length bytes ≡ e - a = c.split.auto.rows ∙ ls in
+    let did = answered (refusal p sources key (length sheet)) (split_for p sources key sheet (owner p key)) bytes c.in_ok-split.ensures.answer in
+    let none : refusal p sources key (part_size p key (length table)) ≡ None = ap (refusal p sources key) (sym (ls ∙ size)) ∙ did.0 in
     let all = all_passed p sources key (part_size p key (length table)) none in
-    let dealt : bytes ≡ split_for p sources key sheet (owner p key) = sym did.1 ∙ ap (λ x. split_for p sources key x (owner p key)) there in
-    let over : put_mid a (e - a) slice bytes ≡ tabled p key bytes table =
-    put_over a e table sheet bytes (omega (arith, inside.0, inside.1)) ls lb ∙ is_tabled p key all.g a bytes table all.owns c.part_range-start.ensures.start (is_whole p sources key (length table) none) in
     record {
       answer = sym (ap (option_map handed_on) (sym (same_refusal p sources key (length table)) ∙ none));
-      held = over ∙ ap (λ x. tabled p key x table) (dealt ∙ ap (λ x. split_for p sources key x (owner p key)) c.in_ok-key_sheet.ensures.held);
-      dealt = λ ready. over ∙ ap (λ x. tabled p key x table) (dealt ∙ ap (λ x. split_for p sources key x (owner p key)) (c.in_ok-key_sheet.ensures.dealt ready));
+      written = put_in a e table bytes lb ∙ is_tabled p key all.g a bytes table all.owns c.part_range-range.ensures.start (is_whole p sources key (length table) none)
+          ∙ ap (λ x. tabled p key x table) (sym did.1 ∙ ap (λ x. split_for p sources key x (owner p key)) c.in_ok-key_sheet.ensures.written);
       tables = tabling p (plan_ranges d.plan) (places p (plan_ranges d.plan));
     }
 
@@ -71,13 +63,4 @@ pub returns-in_err-split : goal.returns-in_err-split
 returns-in_err-split g c =
     let p = view c.args.self.now.plan in
     let sources = map g.P.Pads.source c.args.sources.now in
-    let key = c.args.key in
-    let table = c.args.table.now in
-    let a = c.part_range-start.result.0 in
-    let e = c.part_range-start.result.1 in
-    let sheet = c.key_sheet.new.out in
-    let inside : (a ≤ e) × (e ≤ length table) = (c.part_range-start.ensures.inside.0, c.part_range-start.ensures.inside.1) in
-    let ls : length sheet ≡ e - a = search rules in
-    let there = put_there a e table sheet (omega (arith, inside.0, inside.1)) ls in
-    let slice : length (part a (e - a) table) ≡ e - a = length_part table a (e - a) (omega (arith, inside.0, inside.1)) in
-    absurd (both p sources key _ _ (slice ∙ sym (ap length there ∙ ls)) c.in_ok-key_sheet.ensures.answer c.in_err-split.ensures.answer.0)
+    absurd (both p sources c.args.key _ c.key_sheet.new.out (sym c.key_sheet.auto.out) c.in_ok-key_sheet.ensures.answer c.in_err-split.ensures.answer.0)

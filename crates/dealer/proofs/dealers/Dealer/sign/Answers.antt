@@ -1,4 +1,5 @@
-use Rattle.std.proofs.Common.{[], length, sym, ◌∙◌}
+use Rattle.std.proofs.Common.{[], length, sym, ap, ◌∙◌}
+use Rattle.sizes.specs.Sizes.{levels, bits}
 use Rattle.plan.specs.View.{view}
 use Rattle.lms.specs.Grown.{tall, wide}
 use Rattle.lms.specs.Scheme.{root, signature, verdict}
@@ -18,8 +19,7 @@ returns g c =
     let did = c.in_ok-sign.ensures in
     let found = one_owns p [] key 0 c.in-Some.field-0 c.in-Some.ensures.value in
     record {
-      answer = signs p (tall d.tree) (wide d.tree) key (length message) (length c.args.out.now) found.0 d.tall d.wide found.1 did.answer;
-      held = did.held;
-      dealt = λ r. did.grown r ∙ (λ i. signature H.hashed H.ots H.tree (d.tall i) (d.wide i) (i_of d) (seed_of d) key message);
-      accepted = λ r. (λ i. verdict H.hashed H.ots H.tree (root H.hashed H.ots H.tree (sym d.tall i) (sym d.wide i) (i_of d) (seed_of d)) message out) ∙ did.accepted r;
+      answer = signs p (tall d.tree) (wide d.tree) key (length message) (length c.args.out.now) found.0 (ap levels d.tall) (ap bits d.wide) found.1 did.answer;
+      written = did.written ∙ (λ i. signature H.hashed H.ots H.tree (levels (d.tall i)) (bits (d.wide i)) (i_of d) (seed_of d) key message);
+      accepted = (λ i. verdict H.hashed H.ots H.tree (root H.hashed H.ots H.tree (levels (sym d.tall i)) (bits (sym d.wide i)) (i_of d) (seed_of d)) message out) ∙ did.accepted;
     }

@@ -3,11 +3,12 @@ use borrow.Rule.Slice.PartMut.{put_mid}
 use Rattle.std.proofs.lemmas.Slice.{take-put_mid}
 use Rattle.std.proofs.lemmas.Bool.{eq-eqb}
 use Rattle.rows.specs.Bytes.{part, rows}
+use Rattle.rows.specs.declared.origin.Origin.{Origin}
 use Rattle.rows.proofs.Rows.{length_part}
 use Rattle.sizes.specs.Sizes.{levels, bits}
 use Rattle.plan.specs.Members.{members}
-use Rattle.lms.specs.Grown.{held_path, tall}
-use Rattle.lms.specs.Scheme.{components, positions, prefix, all_components}
+use Rattle.lms.specs.Grown.{tall, grown_path}
+use Rattle.lms.specs.Scheme.{components, positions, prefix, path_row, all_components}
 use Rattle.lms.proofs.Joints.{put_behind}
 use Rattle.dealer.specs.Sheet.{check_rows}
 use Rattle.dealer.specs.Dealt.{i_of, seed_of}
@@ -43,18 +44,18 @@ returns g c =
     let l₄ : length o₄ ≡ length out = search rules in
     let lev : c.levels.result ≡ h = c.levels.ensures ∙ ap levels c.height-height.ensures in
     let whole : length out ≡ b + 32 * (components w * positions w) = c.requires.room ∙ omega (arith, lev, c.size.ensures) in
-    let path_room : length (part a (b - a) o₂) ≡ 32 * tall d.tree = length_part o₂ a (b - a) (omega (arith, l₂, whole)) ∙ omega (arith, lev, d.tall) in
-    let path : z ≡ rows (tall d.tree) (held_path d.tree key) = not_refused c.write_path.result _ _ (tall d.tree) key _ c.write_path.ensures.answer (omega (arith, c.requires.small, ap (λ n. 2 ^ n) d.tall)) (eq-eqb _ _ path_room) c.write_path.ensures.held in
+    let path_room : length (part a (b - a) o₂) ≡ 32 * tall d.tree = length_part o₂ a (b - a) (omega (arith, l₂, whole)) ∙ omega (arith, lev, ap levels d.tall) in
+    let path : z ≡ rows (tall d.tree) (grown_path H d.tree key) = not_refused c.write_path.result _ _ (tall d.tree) key _ c.write_path.ensures.answer (omega (arith, c.requires.small, ap (λ n. 2 ^ levels n) d.tall)) (eq-eqb _ _ path_room) c.write_path.ensures.written in
     let rest-room : length (part b (length o₃ - b) o₃) ≡ 32 * (components (bits c.width.result) * positions (bits c.width.result)) =
     length_part o₃ b (length o₃ - b) (omega (arith, l₃, whole)) ∙ omega (arith, l₃, whole) ∙ ap (λ v. 32 * (components (bits v) * positions (bits v))) (sym c.width.ensures) in
-    let rest : x ≡ all_components H c.identifier-id.result.bytes c.seed-seed.result.bytes (bits c.width.result) key =
+    let rest : x ≡ all_components H c.origin-origin.result.id.bytes c.origin-origin.result.seed.bytes (bits c.width.result) key =
     not_refused c.write_components.result _ _ (levels c.height-height.result) key _ c.write_components.ensures.answer
     (omega (arith, c.requires.small, ap (λ v. 2 ^ levels v) c.height-height.ensures)) (eq-eqb _ _ rest-room) c.write_components.ensures.written in
-    let own : C ≡ prefix H (i_of d) (seed_of d) key = c.prefix-prefix.ensures ∙ (λ i. prefix H (c.identifier-id.ensures i).bytes (c.seed-seed.ensures i).bytes key) in
+    let own : C ≡ prefix H (i_of d) (seed_of d) key = c.prefix-prefix.ensures ∙ ap (λ (o : Origin). prefix H o.id.bytes o.seed.bytes key) c.origin-origin.ensures in
     four_parts 32 a b (length out) o₁ o₂ o₃ o₄ C y z x l₄
     (put_behind out o₁ C 0 32 c.put.ensures.inside (omega (arith, whole)) (omega (arith, lC)))
     (take-put_mid 32 (a - 32) o₁ y a (omega (arith, l₁, whole)) (omega arith))
     (take-put_mid a (b - a) o₂ z b (omega (arith, l₂, whole)) (omega arith))
     (take-put_mid b (length o₃ - b) o₃ x (length out) (omega (arith, l₃, whole)) (omega (arith, l₃, whole)))
-    ∙ (λ i. own i ++ (c.write_checks.ensures ∙ ap (check_rows sources ts key) own) i ++ (path ∙ ap (λ n. rows n (held_path d.tree key)) d.tall) i
-    ++ (rest ∙ (λ j. all_components H (c.identifier-id.ensures j).bytes (c.seed-seed.ensures j).bytes (bits (c.width.ensures j)) key)) i)
+    ∙ (λ i. own i ++ (c.write_checks.ensures ∙ ap (check_rows sources ts key) own) i ++ (path ∙ (λ j. rows (levels (d.tall j)) (path_row H (i_of d) (seed_of d) (levels (d.tall j)) (bits (d.wide j)) key))) i
+    ++ (rest ∙ (λ j. all_components H (c.origin-origin.ensures j).id.bytes (c.origin-origin.ensures j).seed.bytes (bits (c.width.ensures j)) key)) i)
