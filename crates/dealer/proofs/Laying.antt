@@ -1,5 +1,5 @@
 -- A key sheet, written part by part.
-use Rattle.std.proofs.Common.{◌≡◌, ℕ, ◌+◌, ◌^◌, ◌<◌, ◌≤◌, Bool, true, ltb, List, ◌++◌, length, get_or, take, Some, None, Ok, Err, Result, sym, ap, ◌∙◌, ⊎_elim, arith, MatchResult}
+use Rattle.std.proofs.Common.{◌≡◌, ℕ, ◌+◌, ◌^◌, ◌<◌, ◌≤◌, Bool, true, ltb, List, ◌++◌, length, get_or, take, Some, None, Ok, Err, Result, sym, ap, ◌∙◌, ⊎_elim, arith, rules, MatchResult, IsOk}
 use Rattle.std.specs.Result.{result_err}
 use Rattle.std.proofs.lemmas.List.{take_all, get_or_read}
 use Rattle.std.specs.List.{enumerate_from}
@@ -17,12 +17,16 @@ four_parts a b c n o₁ o₂ o₃ o₄ A B C D l e₁ e₂ e₃ e₄ =
     sym (take_all n o₄ (omega arith)) ∙ e₄ ∙ ap (λ x. x ++ D) (e₃ ∙ ap (λ x. x ++ C) (e₂ ∙ ap (λ x. x ++ B) e₁))
 
 -- a call on the tree that has nothing to refuse
-pub not_refused : {X : Type 0} (r : Result X Refusal) (P : Type 0) (Q : Refusal → Type 0) (h key : ℕ) (room : Bool) → result_err r ≡ keyed h key room → key < 2 ^ h → room ≡ true → MatchResult r (λ _. P) Q → P
-not_refused (Ok x) P Q h key room e small fits c = c
-not_refused (Err f) P Q h key room e small fits c =
+pub unrefused : {X : Type 0} (r : Result X Refusal) (h key : ℕ) (room : Bool) → result_err r ≡ keyed h key room → key < 2 ^ h → room ≡ true → IsOk r
+unrefused (Ok x) h key room e small fits = search rules
+unrefused (Err f) h key room e small fits =
     let none : keyed h key room ≡ None = cond-true (ltb key (2 ^ h)) _ (Some Key) (lt-ltb key (2 ^ h) small) ∙ cond-true room None (Some Buffer) fits in
     let s = e ∙ none in
     let z : ◌≡◌ {A = ℕ} 0 1 = cc in absurd (omega arith)
+
+pub done : {X : Type 0} (r : Result X Refusal) (x : X) (P : Type 0) (Q : Refusal → Type 0) → r ≡ Ok x → MatchResult r (λ _. P) Q → P
+done (Ok y) x P Q ok c = c
+done (Err f) x P Q ok c = let z : ◌≡◌ {A = ℕ} 0 1 = cc in absurd (omega arith)
 
 -- the members with their places, one after the other
 pub place_turn : (ts : List ℕ) (n i t : ℕ) → (n < length (enumerate_from 0 ts)) × ((i, t) ≡ get_or (enumerate_from 0 ts) n (i, t)) → (n < length ts) × (i ≡ n) × (t ≡ get_or ts n 0)

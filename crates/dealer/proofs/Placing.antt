@@ -1,9 +1,8 @@
 -- A part, written at its place in the table.
 use borrow.Rule.Slice.PartMut.{put_mid}
-use Rattle.std.proofs.Common.{◌≡◌, ℕ, ◌+◌, ◌-◌, ◌*◌, ◌≤◌, Bool, true, false, eqb, List, ◌++◌, length, take, drop, Some, None, Ok, Err, Option, sym, refl, ap, ◌∙◌, ap₂, ⊎_elim, append_assoc, arith}
+use Rattle.std.proofs.Common.{◌≡◌, ℕ, ◌+◌, ◌-◌, ◌*◌, Bool, true, false, eqb, List, ◌++◌, length, take, drop, Some, None, Ok, Err, Option, sym, refl, ap, ◌∙◌, ap₂, ⊎_elim, append_assoc, arith}
 use Rattle.std.specs.Option.{option_map}
 use Rattle.std.proofs.lemmas.List.{take-append-drop}
-use Rattle.std.proofs.lemmas.Slice.{take-put_mid_below, drop-put_mid, between-put_mid}
 use Rattle.std.proofs.lemmas.Bool.{cases_Bool, cond-false, eq-eqb, ne_eqb, eqb-true}
 use Rattle.rows.specs.Bytes.{part}
 use Rattle.rows.proofs.Rows.{placed, part_then}
@@ -76,16 +75,6 @@ put_back a e xs ys l same =
     ∙ append_assoc (take a xs) (part a (e - a) xs) (drop (a + (e - a)) xs)
     ∙ ap (λ t. take a xs ++ t) (sym (part_then xs a (e - a)))
     ∙ take-append-drop a xs
-
--- what was put is there
-pub put_there : (a e : ℕ) (xs ys : List ℕ) → a ≤ length xs → length ys ≡ e - a → part a (e - a) (put_mid a (e - a) xs ys) ≡ ys
-put_there a e xs ys room l = between-put_mid a (e - a) xs ys e room l
-
--- one thing put over another
-pub put_over : (a e : ℕ) (xs ys zs : List ℕ) → a ≤ length xs → length ys ≡ e - a → length zs ≡ e - a → put_mid a (e - a) (put_mid a (e - a) xs ys) zs ≡ take a xs ++ zs ++ drop (a + length zs) xs
-put_over a e xs ys zs room ly lz =
-    put_in a e (put_mid a (e - a) xs ys) zs lz
-    ∙ ap₂ (λ u v. u ++ zs ++ v) (take-put_mid_below a (e - a) xs ys a (omega arith) room) (drop-put_mid a (e - a) xs ys (a + length zs) (omega arith) room ly)
 
 -- ---- the table with a part at its place
 pub is_tabled : (p : Shape) (key g start : ℕ) (bytes table : List ℕ) → owner p key ≡ Some g → start ≡ part_start p key (length table) → length table ≡ 32 * table_rows p →

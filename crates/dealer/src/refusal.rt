@@ -1,4 +1,4 @@
-// Why the dealer does not answer.
+// Why the dealer does not answer: exactly the cases that her calls can give, so that nobody has to match on others.
 ghost use Rattle.std.specs.Prelude.{◌≡◌};
 ghost use Rattle.dealer.specs.Refusals.{number_of, handed_on, of_tree};
 

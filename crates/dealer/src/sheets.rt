@@ -66,14 +66,12 @@ impl<H: Hash> Dealer<H> {
         let prefix = scheme::prefix::<H>(origin, key);
         put(out, 0, &prefix);
         write_checks(sources, group, key, &prefix, &mut out[32..path]);
-        let _ = self.tree.write_path(key, &mut out[path..components]);
-        let _ = scheme::write_components::<H>(
-            height,
-            self.plan.width(),
-            origin,
-            key,
-            &mut out[components..],
-        );
+        self.tree
+            .write_path(key, &mut out[path..components])
+            .unwrap();
+        let width = self.plan.width();
+        let rest = &mut out[components..];
+        scheme::write_components::<H>(height, width, origin, key, rest).unwrap();
     }
 
     // Writes the key sheet of a dealt key over all of a buffer: the prefix, the members' check rows, the path, and the components.

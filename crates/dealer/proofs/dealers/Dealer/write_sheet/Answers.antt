@@ -12,8 +12,35 @@ use Rattle.lms.specs.Scheme.{components, positions, prefix, path_row, all_compon
 use Rattle.lms.proofs.Joints.{put_behind}
 use Rattle.dealer.specs.Sheet.{check_rows}
 use Rattle.dealer.specs.Dealt.{i_of, seed_of}
-use Rattle.dealer.proofs.Laying.{four_parts, not_refused}
+use Rattle.dealer.proofs.Laying.{four_parts, unrefused, done}
 use Rattle.dealer.proofs.dealers.Dealer.write_sheet.Goals as goal
+
+-- the path's rows fit
+pub unwrap-requires : goal.unwrap-requires
+unwrap-requires g c =
+    let d = c.args.self.now in
+    let a : ℕ = 32 + 32 * c.size.result in
+    let b : ℕ = a + 32 * c.levels.result in
+    let o₂ = put_mid 32 (a - 32) c.put.new.out c.write_checks.new.out in
+    let l₂ : length o₂ ≡ length c.args.out.now = search rules in
+    let lev : c.levels.result ≡ levels d.plan.height = c.levels.ensures ∙ ap levels c.height-height.ensures in
+    let room : length (part a (b - a) o₂) ≡ 32 * tall d.tree = length_part o₂ a (b - a) (omega (arith, l₂, c.requires.room, lev, c.size.ensures)) ∙ omega (arith, lev, ap levels d.tall) in
+    unrefused c.write_path.result (tall d.tree) c.args.key _ c.write_path.ensures.answer (omega (arith, c.requires.small, ap (λ n. 2 ^ levels n) d.tall)) (eq-eqb _ _ room)
+
+-- and so do those of the components
+pub unwrap-requires-2 : goal.unwrap-requires-2
+unwrap-requires-2 g c =
+    let d = c.args.self.now in
+    let w = c.width-width.result in
+    let a : ℕ = 32 + 32 * c.size.result in
+    let b : ℕ = a + 32 * c.levels.result in
+    let o₂ = put_mid 32 (a - 32) c.put.new.out c.write_checks.new.out in
+    let o₃ = put_mid a (b - a) o₂ c.write_path.new.out in
+    let l₃ : length o₃ ≡ length c.args.out.now = search rules in
+    let lev : c.levels.result ≡ levels d.plan.height = c.levels.ensures ∙ ap levels c.height-height.ensures in
+    let many : components (bits d.plan.width) * positions (bits d.plan.width) ≡ components (bits w) * positions (bits w) = ap (λ v. components (bits v) * positions (bits v)) (sym c.width-width.ensures) in
+    let room : length (part b (length o₃ - b) o₃) ≡ 32 * (components (bits w) * positions (bits w)) = length_part o₃ b (length o₃ - b) (omega (arith, l₃, c.requires.room, lev, c.size.ensures)) ∙ omega (arith, l₃, c.requires.room, lev, c.size.ensures, many) in
+    unrefused c.write_components.result (levels c.height-height.result) c.args.key _ c.write_components.ensures.answer (omega (arith, c.requires.small, ap (λ v. 2 ^ levels v) c.height-height.ensures)) (eq-eqb _ _ room)
 
 pub returns : goal.returns
 returns g c =
@@ -44,13 +71,8 @@ returns g c =
     let l₄ : length o₄ ≡ length out = search rules in
     let lev : c.levels.result ≡ h = c.levels.ensures ∙ ap levels c.height-height.ensures in
     let whole : length out ≡ b + 32 * (components w * positions w) = c.requires.room ∙ omega (arith, lev, c.size.ensures) in
-    let path_room : length (part a (b - a) o₂) ≡ 32 * tall d.tree = length_part o₂ a (b - a) (omega (arith, l₂, whole)) ∙ omega (arith, lev, ap levels d.tall) in
-    let path : z ≡ rows (tall d.tree) (grown_path H d.tree key) = not_refused c.write_path.result _ _ (tall d.tree) key _ c.write_path.ensures.answer (omega (arith, c.requires.small, ap (λ n. 2 ^ levels n) d.tall)) (eq-eqb _ _ path_room) c.write_path.ensures.written in
-    let rest-room : length (part b (length o₃ - b) o₃) ≡ 32 * (components (bits c.width.result) * positions (bits c.width.result)) =
-    length_part o₃ b (length o₃ - b) (omega (arith, l₃, whole)) ∙ omega (arith, l₃, whole) ∙ ap (λ v. 32 * (components (bits v) * positions (bits v))) (sym c.width.ensures) in
-    let rest : x ≡ all_components H c.origin-origin.result.id.bytes c.origin-origin.result.seed.bytes (bits c.width.result) key =
-    not_refused c.write_components.result _ _ (levels c.height-height.result) key _ c.write_components.ensures.answer
-    (omega (arith, c.requires.small, ap (λ v. 2 ^ levels v) c.height-height.ensures)) (eq-eqb _ _ rest-room) c.write_components.ensures.written in
+    let path : z ≡ rows (tall d.tree) (grown_path H d.tree key) = done c.write_path.result _ _ _ c.unwrap.ensures c.write_path.ensures.written in
+    let rest : x ≡ all_components H c.origin-origin.result.id.bytes c.origin-origin.result.seed.bytes (bits c.width-width.result) key = done c.write_components.result _ _ _ c.unwrap-2.ensures c.write_components.ensures.written in
     let own : C ≡ prefix H (i_of d) (seed_of d) key = c.prefix-prefix.ensures ∙ ap (λ (o : Origin). prefix H o.id.bytes o.seed.bytes key) c.origin-origin.ensures in
     four_parts 32 a b (length out) o₁ o₂ o₃ o₄ C y z x l₄
     (put_behind out o₁ C 0 32 c.put.ensures.inside (omega (arith, whole)) (omega (arith, lC)))
@@ -58,4 +80,4 @@ returns g c =
     (take-put_mid a (b - a) o₂ z b (omega (arith, l₂, whole)) (omega arith))
     (take-put_mid b (length o₃ - b) o₃ x (length out) (omega (arith, l₃, whole)) (omega (arith, l₃, whole)))
     ∙ (λ i. own i ++ (c.write_checks.ensures ∙ ap (check_rows sources ts key) own) i ++ (path ∙ (λ j. rows (levels (d.tall j)) (path_row H (i_of d) (seed_of d) (levels (d.tall j)) (bits (d.wide j)) key))) i
-    ++ (rest ∙ (λ j. all_components H (c.origin-origin.ensures j).id.bytes (c.origin-origin.ensures j).seed.bytes (bits (c.width.ensures j)) key)) i)
+    ++ (rest ∙ (λ j. all_components H (c.origin-origin.ensures j).id.bytes (c.origin-origin.ensures j).seed.bytes (bits (c.width-width.ensures j)) key)) i)
