@@ -46,9 +46,7 @@ impl<H: Hash> Dealer<H> {
         ensures accepted { OnOk result (verdict H.Hash.hashed H.Hash.ots H.Hash.tree
             (root H.Hash.hashed H.Hash.ots H.Hash.tree (plan_of self.now).height (plan_of self.now).width (i_of self.now) (seed_of self.now)) message.now out.new ≡ true) }
     {
-        let Some(_) = self.plan.owner(key) else {
-            return Err(Refusal::Undealt);
-        };
+        self.plan.owner(key).ok_or(Refusal::Undealt)?;
         self.tree.sign(key, message, out)?;
         Ok(())
     }

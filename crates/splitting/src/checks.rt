@@ -23,9 +23,7 @@ pub fn check<P: Pads>(plan: &Plan, sources: &[P], key: u32, length: usize) -> Re
     if !distinct(sources) {
         return Err(Refusal::SameChecks);
     }
-    let Some(group) = plan.owner(key) else {
-        return Err(Refusal::Undealt);
-    };
+    let group = plan.owner(key).ok_or(Refusal::Undealt)?;
     if length != 32 * part_rows(plan.height(), plan.width(), &group) {
         return Err(Refusal::Buffer);
     }

@@ -11,7 +11,8 @@ use pads::Pads;
 use plan::Group;
 use rows::{Row, add_row};
 
-// Adds eight rows to those from row `first` on, as far as there are rows.
+// Adds eight rows to those from row `first` on, as far as there are rows. Rows are altered by number, since a proof does not know what a
+// slice holds after `chunks_mut`.
 fn add_eight(out: &mut [u8], first: usize, pads: &[Row; 8])
     requires { first < 65528 }
     ensures new { (l : ℕ) → l < 8 → 32 * (first + l + 1) ≤ length out.old →

@@ -17,7 +17,7 @@ returns g c =
     let out = c.sign.new.out in
     let H = g.H.Hash in
     let did = c.in_ok-sign.ensures in
-    let found = one_owns p [] key 0 c.in-Some.field-0 c.in-Some.ensures.value in
+    let found = one_owns p [] key 0 _ (sym c.in_ok-ok_or.ensures.ok_part ∙ c.owner.ensures.value) in
     record {
       answer = signs p (tall d.tree) (wide d.tree) key (length message) (length c.args.out.now) found.0 (ap levels d.tall) (ap bits d.wide) found.1 did.answer;
       written = did.written ∙ (λ i. signature H.hashed H.ots H.tree (levels (d.tall i)) (bits (d.wide i)) (i_of d) (seed_of d) key message);
