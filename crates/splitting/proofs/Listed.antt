@@ -1,5 +1,5 @@
 -- Lists of sources and of members, looked at one after the other.
-use Rattle.std.proofs.Common.{◌≡◌, ℕ, zero, suc, ◌-◌, ◌<◌, ◌≤◌, Bool, ◌||◌, List, [], ◌∷◌, ◌++◌, map, length, get_or, replicate, refl, ap, ◌∙◌, ap₂, arith}
+use Rattle.std.proofs.Common.{◌≡◌, ℕ, zero, suc, ◌-◌, ◌≤◌, Bool, ◌||◌, List, [], ◌∷◌, ◌++◌, map, length, get_or, replicate, refl, ap, ◌∙◌, ap₂, arith}
 use lib.Bits.{xor_zero_r}
 use Rattle.std.specs.List.{list_any}
 use Rattle.rows.specs.Bytes.{xored}
@@ -15,14 +15,6 @@ any_mapped test f (x ∷ xs) = ap (λ b. test (f x) || b) (any_mapped test f xs)
 
 -- ---- sources, by a function from values to what they mean
 module _ {P : Type 0} (f : P → Source) where
-  pub source_at : (xs : List P) (t : ℕ) (d : P) → t - 1 < length xs → source_of (map f xs) t ≡ f (get_or xs (t - 1) d)
-  source_at xs t d l = at xs (t - 1) l
-    where
-      at : (ys : List P) (i : ℕ) → i < length ys → get_or (map f ys) i no_source ≡ f (get_or ys i d)
-      at [] i m = absurd (omega arith)
-      at (y ∷ ys) zero m = refl
-      at (y ∷ ys) (suc i) m = at ys i (omega arith)
-
   pub source_past : (xs : List P) (t : ℕ) → length xs ≤ t - 1 → source_of (map f xs) t ≡ no_source
   source_past xs t l = past xs (t - 1) l
     where

@@ -25,7 +25,7 @@ unwrap-requires g c =
     let l₂ : length o₂ ≡ length c.args.out.now = search rules in
     let lev : c.levels.result ≡ levels d.plan.height = c.levels.ensures ∙ ap levels c.height-height.ensures in
     let room : length (part a (b - a) o₂) ≡ 32 * tall d.tree = length_part o₂ a (b - a) (omega (arith, l₂, c.requires.room, lev, c.size.ensures)) ∙ omega (arith, lev, ap levels d.tall) in
-    unrefused c.write_path.result (tall d.tree) c.args.key _ c.write_path.ensures.answer (omega (arith, c.requires.small, ap (λ n. 2 ^ levels n) d.tall)) (eq-eqb _ _ room)
+    unrefused c.write_path.result (tall d.tree) _ _ c.write_path.ensures.answer (omega (arith, c.requires.small, ap (λ n. 2 ^ levels n) d.tall)) (eq-eqb _ _ room)
 
 -- and so do those of the components
 pub unwrap-requires-2 : goal.unwrap-requires-2
@@ -40,7 +40,7 @@ unwrap-requires-2 g c =
     let lev : c.levels.result ≡ levels d.plan.height = c.levels.ensures ∙ ap levels c.height-height.ensures in
     let many : components (bits d.plan.width) * positions (bits d.plan.width) ≡ components (bits w) * positions (bits w) = ap (λ v. components (bits v) * positions (bits v)) (sym c.width-width.ensures) in
     let room : length (part b (length o₃ - b) o₃) ≡ 32 * (components (bits w) * positions (bits w)) = length_part o₃ b (length o₃ - b) (omega (arith, l₃, c.requires.room, lev, c.size.ensures)) ∙ omega (arith, l₃, c.requires.room, lev, c.size.ensures, many) in
-    unrefused c.write_components.result (levels c.height-height.result) c.args.key _ c.write_components.ensures.answer (omega (arith, c.requires.small, ap (λ v. 2 ^ levels v) c.height-height.ensures)) (eq-eqb _ _ room)
+    unrefused c.write_components.result (levels c.height-height.result) _ _ c.write_components.ensures.answer (omega (arith, c.requires.small, ap (λ v. 2 ^ levels v) c.height-height.ensures)) (eq-eqb _ _ room)
 
 pub returns : goal.returns
 returns g c =
