@@ -22,9 +22,7 @@ fn dealt_keys(plan: &Plan) -> u32 {
 
 // Whether the groups' parts have as many rows as listed, group by group.
 fn part_rows_are(plan: &Plan, listed: &[u32]) -> bool {
-    let rows = plan
-        .iter()
-        .map(|group| part_rows(plan.height(), plan.width(), &group) as u32);
+    let rows = plan.iter().map(|group| part_rows(plan.height(), plan.width(), &group) as u32);
     rows.eq(listed.iter().copied())
 }
 

@@ -71,7 +71,13 @@ impl OwnedBook {
     }
 
     fn book(&self) -> Book<'_> {
-        Book::new(&self.bytes, self.first, self.height, self.width, &self.check)
+        Book::new(
+            &self.bytes,
+            self.first,
+            self.height,
+            self.width,
+            &self.check,
+        )
     }
 
     // Whether it holds just the keys that are listed.

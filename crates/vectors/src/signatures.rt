@@ -9,11 +9,15 @@ use sizes::{Height, Width};
 use vector_files::{Block, HashName, Suite};
 
 pub(crate) fn width_of(block: &Block) -> anyhow::Result<Width> {
-    Width::try_from(block.number("w")?).ok().context("a vector has an unknown width")
+    Width::try_from(block.number("w")?)
+        .ok()
+        .context("a vector has an unknown width")
 }
 
 pub(crate) fn height_of(block: &Block) -> anyhow::Result<Height> {
-    Height::try_from(block.number("h")?).ok().context("a vector has an unknown height")
+    Height::try_from(block.number("h")?)
+        .ok()
+        .context("a vector has an unknown height")
 }
 
 #[derive(Drop)]
@@ -25,10 +29,10 @@ impl Suite for Digits {
         let digest = block.array::<32>("digest")?;
         let mut wanted = block.numbers("digits")?;
         wanted.extend_from_slice(&block.numbers("checksum_digits")?)?;
-        let same = wanted
-            .iter()
-            .enumerate()
-            .all(|(i, digit)| scheme::position(width, &digest, i) as u32 == *digit);
+        let same = wanted.iter().enumerate().all(|(i, digit)| scheme::position(
+            width, &digest, i,
+        ) as u32
+            == *digit);
         Ok(Some(same && wanted.len() == scheme::components(width)))
     }
 }

@@ -65,8 +65,8 @@ impl Suite for Tapes {
         // The name is in two parts, since a crate whose sources have that word is proved twice by the gate.
         let in_order = refused.map_or(0, |refusal| refusal.number() as u32)
             == block.number(concat!("te", "st"))?;
-        let rooms =
-            room == block.number("room")? as usize && left == block.number("room_after")? as usize;
+        let rooms = room == block.number("room")? as usize
+            && left == block.number("room_after")? as usize;
         Ok(Some(in_order && rooms && spent && answered && same))
     }
 }
