@@ -66,13 +66,8 @@ impl<H: Hash> Leaf<'_, H> {
         let digest = digest_of::<H>(tree.origin.id, self.key, &prefix, message);
         let end = 40 + 32 * chain_count(tree.width);
         write_head::<H>(tree.width, self.key, &prefix, out);
-        let _ = write_selected::<H>(
-            tree.origin,
-            tree.width,
-            self.key,
-            &digest,
-            &mut out[40..end],
-        );
+        let rows = &mut out[40..end];
+        write_selected::<H>(tree.origin, tree.width, self.key, &digest, rows).unwrap();
         put(out, end, &tree_code::<H>(tree.height).to_be_bytes());
         self.write_siblings(&mut out[end + 4..]);
     }

@@ -49,10 +49,8 @@ fn candidate_root<H: Hash>(
     let digest = digest_of::<H>(id, q, &row_at(sig, 8), message);
     let end = 40 + 32 * chain_count(width);
     let r = height.keys() + q;
-    match candidate_key::<H>(id, width, q, &digest, &sig[40..end]) {
-        Ok(key) => climb::<H>(id, r, &leaf::<H>(id, r, &key), sig[end + 4..].as_chunks().0),
-        Err(_) => unreachable(),
-    }
+    let key = candidate_key::<H>(id, width, q, &digest, &sig[40..end]).unwrap();
+    climb::<H>(id, r, &leaf::<H>(id, r, &key), sig[end + 4..].as_chunks().0)
 }
 
 // Whether a signature has the root's two codes, the tree code at its place.
