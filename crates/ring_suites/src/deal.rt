@@ -6,7 +6,6 @@ use dealer::Dealer;
 use hash::Hash;
 use layout::table_rows;
 use splitting::split;
-use std::alloc::Global;
 
 // The root, and the key sheet and the part of one key.
 #[derive(Drop)]
@@ -21,16 +20,13 @@ fn accepted<E: Drop>(answer: Result<(), E>) -> anyhow::Result<()> {
     answer.ok().context("a vector's key is refused")
 }
 
-fn dealer_of<H: Hash>(heap: Global, setting: &Setting) -> anyhow::Result<Dealer<H>> {
-    Ok(Dealer::<H>::new(heap, setting.plan, setting.origin)?)
+fn dealer_of<H: Hash>(setting: &Setting) -> anyhow::Result<Dealer<H>> {
+    Ok(Dealer::<H>::new(setting.heap, setting.plan, setting.origin)?)
 }
 
-pub(crate) fn deal_key<H: Hash>(
-    heap: Global,
-    setting: &Setting,
-    key: u32,
-) -> anyhow::Result<Dealt> {
-    let dealer = dealer_of::<H>(heap, setting)?;
+pub(crate) fn deal_key<H: Hash>(setting: &Setting, key: u32) -> anyhow::Result<Dealt> {
+    let heap = setting.heap;
+    let dealer = dealer_of::<H>(setting)?;
     let sources = hmac_sources::<H>(heap, &setting.pad_keys)?;
     let mut root = vec![in heap; 0u8; 56]?;
     accepted(dealer.root(&mut root))?;
@@ -43,24 +39,23 @@ pub(crate) fn deal_key<H: Hash>(
 
 // The dealer's signature, of a stated length.
 pub(crate) fn sign<H: Hash>(
-    heap: Global,
     setting: &Setting,
     key: u32,
     message: &[u8],
     length: usize,
 ) -> anyhow::Result<Vec<u8>> {
-    let dealer = dealer_of::<H>(heap, setting)?;
-    let mut signature = vec![in heap; 0u8; length]?;
+    let dealer = dealer_of::<H>(setting)?;
+    let mut signature = vec![in setting.heap; 0u8; length]?;
     accepted(dealer.sign(key, message, &mut signature))?;
     Ok(signature)
 }
 
 // The whole public table, dealt key by key.
-pub(crate) fn deal_table<H: Hash>(heap: Global, setting: &Setting) -> anyhow::Result<Vec<u8>> {
+pub(crate) fn deal_table<H: Hash>(setting: &Setting) -> anyhow::Result<Vec<u8>> {
     let plan = &setting.plan;
-    let dealer = dealer_of::<H>(heap, setting)?;
-    let sources = hmac_sources::<H>(heap, &setting.pad_keys)?;
-    let mut table = vec![in heap; 0u8; 32 * table_rows(plan)]?;
+    let dealer = dealer_of::<H>(setting)?;
+    let sources = hmac_sources::<H>(setting.heap, &setting.pad_keys)?;
+    let mut table = vec![in setting.heap; 0u8; 32 * table_rows(plan)]?;
     for key in (0..plan.height().keys()).filter(|key| plan.owner(*key).is_some()) {
         accepted(dealer.deal_part(&sources, key, &mut table))?;
     }

@@ -4,10 +4,12 @@ use layout::part_rows;
 use plan::Plan;
 use plan_sheet::read;
 use rows::{Identifier, Origin, Row, Seed};
+use std::alloc::Global;
 use vector_files::{Block, HashName};
 
 #[derive(Drop)]
 pub(crate) struct Setting {
+    pub(crate) heap: Global,
     pub(crate) hash: HashName,
     pub(crate) plan: Plan,
     pub(crate) origin: Origin,
@@ -23,6 +25,7 @@ impl Setting {
             pad_keys.push(block.array(name.as_str())?)?;
         }
         Ok(Setting {
+            heap: block.heap(),
             hash: HashName::of(block)?,
             plan,
             origin: Origin {

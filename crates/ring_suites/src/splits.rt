@@ -3,10 +3,9 @@ use crate::deal::{Dealt, deal_key, sign};
 use crate::setting::{Setting, rows_of_key};
 use anyhow::Context;
 use plan::Plan;
-use sha256::{Hasher as Sha256, sha256};
-use shake256::Hasher as Shake256;
+use sha256::sha256;
 use std::alloc::{AllocError, Global};
-use vector_files::{Block, HashName, Suite};
+use vector_files::{Block, Suite, over_hash};
 
 // What the blocks so far have said.
 #[derive(Drop, Default)]
@@ -67,10 +66,7 @@ impl Splits {
             .as_ref()
             .context("a key stands before its plan")?;
         let key = block.number("key")?;
-        let dealt = match setting.hash {
-            HashName::Sha256 => deal_key::<Sha256>(block.heap(), setting, key)?,
-            HashName::Shake256 => deal_key::<Shake256>(block.heap(), setting, key)?,
-        };
+        let dealt = over_hash!(setting.hash, deal_key(setting, key))?;
         self.dealt = Some((key, dealt));
         Ok(())
     }
@@ -87,11 +83,7 @@ impl Splits {
             .context("a signature stands before its message")?;
         let key = self.dealt.as_ref().map_or(0, |dealt| dealt.0);
         let wanted = block.bytes("signature")?;
-        let heap = block.heap();
-        let signature = match setting.hash {
-            HashName::Sha256 => sign::<Sha256>(heap, setting, key, message, wanted.len())?,
-            HashName::Shake256 => sign::<Shake256>(heap, setting, key, message, wanted.len())?,
-        };
+        let signature = over_hash!(setting.hash, sign(setting, key, message, wanted.len()))?;
         Ok(signature.as_slice() == wanted.as_slice())
     }
 }

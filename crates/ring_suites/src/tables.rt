@@ -5,9 +5,8 @@ use crate::setting::Setting;
 use layout::{part_rows, table_rows};
 use plan::Plan;
 use rows::Row;
-use sha256::{Hasher as Sha256, sha256};
-use shake256::Hasher as Shake256;
-use vector_files::{Block, HashName, Suite};
+use sha256::sha256;
+use vector_files::{Block, Suite, over_hash};
 
 // The plan of the block, and its table by digest.
 #[derive(Drop, Default)]
@@ -30,10 +29,7 @@ impl Suite for Tables {
     // The case of a block is what a helper lends.
     fn check(&mut self, block: &Block) -> anyhow::Result<Option<bool>> {
         let setting = Setting::of(block)?;
-        let table = match setting.hash {
-            HashName::Sha256 => deal_table::<Sha256>(block.heap(), &setting)?,
-            HashName::Shake256 => deal_table::<Shake256>(block.heap(), &setting)?,
-        };
+        let table = over_hash!(setting.hash, deal_table(&setting))?;
         self.dealt = Some((setting.plan, sha256(&table)));
         Ok(Some(lends(&table, &setting.plan)))
     }

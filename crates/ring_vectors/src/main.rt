@@ -2,7 +2,7 @@
 #![tactic(auto)]
 
 use ring_suites::{Refusals, Splits, Tables};
-use vector_files::{Program, Totals, run_program};
+use vector_files::{Folder, Program, run_program};
 
 struct RingVectors;
 
@@ -16,21 +16,21 @@ in crates/ring_vectors/data. It ends with status 1 if a case is wrong or no file
 
     const DATA: &'static str = "crates/ring_vectors/data";
 
-    fn run_all(rt: &HostRuntime, folder: &str, totals: &mut Totals) -> anyhow::Result<()> {
-        run_splits(rt, folder, totals)?;
-        totals.run(rt, folder, "tables.txt", Tables::default())?;
-        totals.run(rt, folder, "refusals.txt", Refusals)?;
+    fn run_all(folder: &mut Folder) -> anyhow::Result<()> {
+        run_splits(folder)?;
+        folder.run("tables.txt", Tables::default())?;
+        folder.run("refusals.txt", Refusals)?;
         Ok(())
     }
 }
 
 // The files of one key each, by hash, height and width.
-fn run_splits(rt: &HostRuntime, folder: &str, totals: &mut Totals) -> anyhow::Result<()> {
+fn run_splits(folder: &mut Folder) -> anyhow::Result<()> {
     for hash in ["sha256", "shake256"] {
         for height in [5u32, 10] {
             for width in [1u32, 2, 4, 8] {
-                let name = format!(in rt.alloc(); "split-{hash}-h{height}-w{width}.txt")?;
-                totals.run(rt, folder, name.as_str(), Splits::default())?;
+                let name = format!(in folder.rt().alloc(); "split-{hash}-h{height}-w{width}.txt")?;
+                folder.run(name.as_str(), Splits::default())?;
             }
         }
     }

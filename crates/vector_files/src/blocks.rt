@@ -39,7 +39,8 @@ pub struct Block<'t> {
 
 impl<'t> Block<'t> {
     pub fn new(heap: Global) -> Block<'t>
-        ensures { result.fields.items ≡ [] }
+        ensures heap { result.heap ≡ heap }
+        ensures fields { result.fields.items ≡ [] }
     {
         Block {
             heap,

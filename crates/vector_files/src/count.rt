@@ -12,7 +12,7 @@ impl Count {
     pub(crate) fn of(right: bool) -> Count {
         Count {
             cases: 1,
-            wrong: if right { 0 } else { 1 },
+            wrong: usize::from(!right),
         }
     }
 

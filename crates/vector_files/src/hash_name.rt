@@ -1,5 +1,4 @@
-// The two hashes, by the names that vectors give them. Who runs something over either switches by itself, since no closure is generic over a
-// hash.
+// The two hashes, by the names that vectors give them.
 ghost use Rattle.std.specs.Prelude.{◌≡◌, Some, codes, MatchResult, ◌≢◌};
 
 use crate::blocks::Block;

@@ -30,7 +30,7 @@ pub fn decode(heap: Global, text: &str) -> Result<Option<Vec<u8>>, AllocError>
 {
     let mut bytes = Vec::new(heap);
     let mut left = text.as_bytes();
-    // Chunks of two would need a case for half a pair.
+    // The pattern names both digits; chunks of two would be indexed, and tested for half a pair before.
     while let [high, low, rest @ ..] = left {
         let Some(byte) = pair(*high, *low) else {
             return Ok(None);

@@ -3,6 +3,7 @@
 
 mod blocks;
 mod count;
+mod folder;
 mod hash_name;
 mod hex;
 mod program;
@@ -10,7 +11,20 @@ mod run;
 mod suite;
 
 pub use blocks::{Block, Field};
+pub use folder::Folder;
 pub use hash_name::{HashName, UnknownHash};
 pub use hex::decode;
 pub use program::{Program, run_program};
-pub use suite::{Suite, Totals};
+pub use suite::Suite;
+
+// Runs a function that is generic over a hash with the one that a name stands for; the caller's crate depends on both. A macro, since a closure
+// is not generic over a hash.
+#[macro_export]
+macro_rules! over_hash {
+    ($name:expr, $run:ident($($argument:expr),*)) => {
+        match $name {
+            $crate::HashName::Sha256 => $run::<sha256::Hasher>($($argument),*),
+            $crate::HashName::Shake256 => $run::<shake256::Hasher>($($argument),*),
+        }
+    };
+}

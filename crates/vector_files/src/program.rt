@@ -1,5 +1,5 @@
 // What the programs over vector files have in common.
-use crate::suite::Totals;
+use crate::folder::Folder;
 use std::env;
 
 // A program that runs every file that it knows and finds in a folder.
@@ -10,25 +10,31 @@ pub trait Program {
     const DATA: &'static str;
 
     // Runs every file that it knows.
-    fn run_all(rt: &HostRuntime, folder: &str, totals: &mut Totals) -> anyhow::Result<()>;
+    fn run_all(folder: &mut Folder) -> anyhow::Result<()>;
 }
 
 // Runs the files of the folder that the first argument names, or prints the help. Without an argument it looks in the folder that it is run in,
 // and, if no file is there, in that of its own files.
 pub fn run_program<P: Program>(rt: &HostRuntime) -> anyhow::Result<()> {
-    let mut args = env::args(rt)?.skip(1);
-    let mut totals = Totals::default();
-    let Some(folder) = args.next() else {
-        P::run_all(rt, ".", &mut totals)?;
-        if totals.files() == 0 {
-            P::run_all(rt, P::DATA, &mut totals)?;
+    match env::args(rt)?.nth(1) {
+        None => {
+            let mut here = Folder::new(rt, ".");
+            P::run_all(&mut here)?;
+            if here.files() == 0 {
+                return run_folder::<P>(rt, P::DATA);
+            }
+            here.finish()
         }
-        return totals.finish(rt);
-    };
-    if folder.as_str() == "--help" {
-        rt.println(P::HELP)?;
-        return Ok(());
+        Some(word) if word.as_str() == "--help" => {
+            rt.println(P::HELP)?;
+            Ok(())
+        }
+        Some(path) => run_folder::<P>(rt, path.as_str()),
     }
-    P::run_all(rt, folder.as_str(), &mut totals)?;
-    totals.finish(rt)
+}
+
+fn run_folder<P: Program>(rt: &HostRuntime, path: &str) -> anyhow::Result<()> {
+    let mut folder = Folder::new(rt, path);
+    P::run_all(&mut folder)?;
+    folder.finish()
 }

@@ -3,7 +3,7 @@ use anyhow::ensure;
 use hash::hmac::hmac;
 use sha256::sha256;
 use shake256::shake256;
-use vector_files::{Block, HashName, Suite};
+use vector_files::{Block, HashName, Suite, over_hash};
 
 #[derive(Drop)]
 pub(crate) struct Digests;
@@ -32,10 +32,7 @@ impl Suite for Macs {
         let mut key = [0u8; 32];
         key[0..given.len()].copy_from_slice(&given);
         let message = block.message()?;
-        let code = match HashName::of(block)? {
-            HashName::Sha256 => hmac::<sha256::Hasher>(&key, &message),
-            HashName::Shake256 => hmac::<shake256::Hasher>(&key, &message),
-        };
+        let code = over_hash!(HashName::of(block)?, hmac(&key, &message));
         let mac = block.bytes("mac")?;
         ensure!(
             !mac.is_empty() && mac.len() <= 32,

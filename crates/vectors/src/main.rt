@@ -12,7 +12,7 @@ use pads_and_books::{Books, HmacSources};
 use plans::PlanSheets;
 use signatures::{Digits, Signatures, Verdicts};
 use tapes::Tapes;
-use vector_files::{Program, Totals, run_program};
+use vector_files::{Folder, Program, run_program};
 
 struct Vectors;
 
@@ -26,19 +26,19 @@ in crates/vectors/data. It ends with status 1 if a case is wrong or no file is f
 
     const DATA: &'static str = "crates/vectors/data";
 
-    fn run_all(rt: &HostRuntime, folder: &str, totals: &mut Totals) -> anyhow::Result<()> {
-        totals.run(rt, folder, "plans.txt", PlanSheets)?;
-        totals.run(rt, folder, "hash.txt", Digests)?;
-        totals.run(rt, folder, "hmac.txt", Macs)?;
-        totals.run(rt, folder, "digits.txt", Digits)?;
-        totals.run(rt, folder, "lms-rfc8554.txt", Signatures::default())?;
-        totals.run(rt, folder, "lms-sha256.txt", Signatures::default())?;
-        totals.run(rt, folder, "lms-shake256.txt", Signatures::default())?;
-        totals.run(rt, folder, "lms-long-messages.txt", Signatures::default())?;
-        totals.run(rt, folder, "verify.txt", Verdicts)?;
-        totals.run(rt, folder, "tape.txt", Tapes)?;
-        totals.run(rt, folder, "pads.txt", HmacSources)?;
-        totals.run(rt, folder, "book.txt", Books::default())?;
+    fn run_all(folder: &mut Folder) -> anyhow::Result<()> {
+        folder.run("plans.txt", PlanSheets)?;
+        folder.run("hash.txt", Digests)?;
+        folder.run("hmac.txt", Macs)?;
+        folder.run("digits.txt", Digits)?;
+        folder.run("lms-rfc8554.txt", Signatures::default())?;
+        folder.run("lms-sha256.txt", Signatures::default())?;
+        folder.run("lms-shake256.txt", Signatures::default())?;
+        folder.run("lms-long-messages.txt", Signatures::default())?;
+        folder.run("verify.txt", Verdicts)?;
+        folder.run("tape.txt", Tapes)?;
+        folder.run("pads.txt", HmacSources)?;
+        folder.run("book.txt", Books::default())?;
         Ok(())
     }
 }

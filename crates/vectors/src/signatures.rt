@@ -1,12 +1,13 @@
 // Digits, trees, signatures and verdicts.
-use anyhow::Context;
+use anyhow::{Context, ensure};
 use either::{Either, Left, Right, for_both};
+use hash::Hash;
 use lms::{Tree, scheme, verify};
 use rows::{Identifier, Origin, Seed};
 use sha256::Hasher as Sha256;
 use shake256::Hasher as Shake256;
 use sizes::{Height, Width};
-use vector_files::{Block, HashName, Suite};
+use vector_files::{Block, HashName, Suite, over_hash};
 
 pub(crate) fn width_of(block: &Block) -> anyhow::Result<Width> {
     Width::try_from(block.number("w")?)
@@ -44,6 +45,8 @@ fn grow(block: &Block) -> anyhow::Result<AnyTree> {
     let heap = block.heap();
     let height = height_of(block)?;
     let width = width_of(block)?;
+    let long = block.bytes("identifier")?.len();
+    ensure!(long == 16, "an identifier has not 16 bytes");
     let origin = Origin {
         id: Identifier::new(block.array("identifier")?),
         seed: Seed::new(block.array("seed")?),
@@ -60,6 +63,10 @@ pub(crate) struct Signatures {
     tree: Option<AnyTree>,
 }
 
+fn accepts<H: Hash>(tree: &Tree<H>, message: &[u8], signature: &[u8]) -> bool {
+    verify::<H>(&tree.root(), message, signature)
+}
+
 // Whether a tree signs as a block says; a message over the bound it must refuse, and the verdict on what is given is then no.
 fn signs(tree: &AnyTree, block: &Block) -> anyhow::Result<bool> {
     let message = block.message()?;
@@ -69,10 +76,7 @@ fn signs(tree: &AnyTree, block: &Block) -> anyhow::Result<bool> {
     let mut signature = vec![in block.heap(); 0u8; wanted.len()]?;
     let signed = for_both!(tree, tree => tree.sign(key, &message, &mut signature).is_ok());
     let same = signature.as_slice() == wanted.as_slice();
-    let judged = match tree {
-        Left(tree) => verify::<Sha256>(&tree.root(), &message, &wanted),
-        Right(tree) => verify::<Shake256>(&tree.root(), &message, &wanted),
-    };
+    let judged = for_both!(tree, tree => accepts(tree, &message, &wanted));
     Ok(signed == expected && judged == expected && (same || !signed))
 }
 
@@ -102,10 +106,7 @@ impl Suite for Verdicts {
         let root = block.bytes("root")?;
         let message = block.message()?;
         let signature = block.bytes("signature")?;
-        let judged = match HashName::of(block)? {
-            HashName::Sha256 => verify::<Sha256>(&root, &message, &signature),
-            HashName::Shake256 => verify::<Shake256>(&root, &message, &signature),
-        };
+        let judged = over_hash!(HashName::of(block)?, verify(&root, &message, &signature));
         Ok(Some(judged == (block.required("verdict")? == "yes")))
     }
 }

@@ -8,32 +8,18 @@ use vector_files::{Block, Suite};
 #[derive(Drop)]
 pub(crate) struct Tapes;
 
-// Which keys are spent.
-#[derive(Drop)]
-enum Spent {
-    All,
-    Listed(Vec<u32>),
-}
-
-impl Spent {
-    fn of(block: &Block) -> anyhow::Result<Spent> {
-        match block.text("spent") {
-            Some("all") => Ok(Spent::All),
-            _ => Ok(Spent::Listed(block.numbers("spent")?)),
-        }
+// Which keys of the tree a block says are spent: all, or those that it lists.
+fn spent_keys(block: &Block, height: Height) -> anyhow::Result<Vec<u32>> {
+    if block.text("spent") == Some("all") {
+        return Ok((0..height.keys()).collect(block.heap())?);
     }
-
-    fn has(&self, key: u32) -> bool {
-        match self {
-            Spent::All => true,
-            Spent::Listed(keys) => keys.contains(&key),
-        }
-    }
+    block.numbers("spent")
 }
 
 // Whether just these keys of the tree are spent.
-fn spent_are(tape: &Tape, height: Height, wanted: &Spent) -> bool {
-    (0..height.keys()).all(|key| tape.spent(key) == wanted.has(key)) && tape.spent(height.keys())
+fn spent_are(tape: &Tape, height: Height, wanted: &[u32]) -> bool {
+    (0..height.keys()).all(|key| tape.spent(key) == wanted.contains(&key))
+        && tape.spent(height.keys())
 }
 
 // Makes the spends one after the other, and compares the answers: 0, 11 or 15.
@@ -52,7 +38,7 @@ impl Suite for Tapes {
         let height = height_of(block)?;
         let mut bytes = block.bytes("tape")?;
         let refused = Tape::check(&bytes, height).err();
-        let wanted = Spent::of(block)?;
+        let wanted = spent_keys(block, height)?;
         let keys = block.numbers("spends")?;
         let answers = block.numbers("answers")?;
         let mut tape = Tape::open(&mut bytes, height);
