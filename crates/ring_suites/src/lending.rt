@@ -19,13 +19,17 @@ fn lends_part(mut table: Table, key: u32, rows: &[u8]) -> bool {
 }
 
 // Whether the table of a plan on these bytes lends all rows of them but some of the last part, key by key.
-fn lends_all_but(table: Table, bytes: &[u8], plan: &Plan, missing: usize) -> bool {
+fn lends_all_but(table: Table, bytes: &[u8], plan: &Plan, missing: u16) -> bool {
     let mut rest = bytes;
     for key in 0..plan.height().keys() {
         let Some((part, behind)) = rest.split_at_checked(32 * rows_of_key(plan, key)) else {
             return false;
         };
-        let cut = if behind.is_empty() { 32 * missing } else { 0 };
+        let cut = if behind.is_empty() {
+            32 * missing as usize
+        } else {
+            0
+        };
         if !lends_part(table, key, &part[..part.len().saturating_sub(cut)]) {
             return false;
         }

@@ -1,4 +1,6 @@
 // What a dealer starts from, and the trustees' pad keys.
+ghost use Rattle.std.specs.Prelude.{◌≤◌};
+
 use anyhow::Context;
 use layout::part_rows;
 use plan::Plan;
@@ -44,7 +46,9 @@ pub(crate) fn plan_of(block: &Block) -> anyhow::Result<Plan> {
 }
 
 // How many rows the part of a key has: none for a key that is not dealt.
-pub(crate) fn rows_of_key(plan: &Plan, key: u32) -> usize {
+pub(crate) fn rows_of_key(plan: &Plan, key: u32) -> usize
+    ensures { result ≤ 8723 }
+{
     plan.owner(key).map_or(0, |group| {
         part_rows(plan.height(), plan.width(), &group)
     })

@@ -31,8 +31,9 @@ fn bytes_of_line(
     let Some(group) = plan.owner(key) else {
         return Ok(None);
     };
-    let checks = 32 + 32 * group.size();
-    let front = checks + 32 * plan.height().levels() + 32;
+    let checks = group.size().saturating_add(1).saturating_mul(32);
+    let path = plan.height().levels().saturating_mul(32);
+    let front = checks.saturating_add(path).saturating_add(32);
     let end = dealt.part.len();
     let bytes = match name {
         "root" => dealt.root.clone()?,

@@ -8,10 +8,16 @@ use rows::Row;
 use sha256::sha256;
 use vector_files::{Block, Suite, over_hash};
 
-// The plan of the block, and its table by digest.
 #[derive(Drop, Default)]
 pub struct Tables {
-    dealt: Option<(Plan, Row)>,
+    dealt: Option<Dealt>,
+}
+
+// The plan of a block, and its table by digest.
+#[derive(Clone, Copy)]
+struct Dealt {
+    plan: Plan,
+    digest: Row,
 }
 
 fn dealt_keys(plan: &Plan) -> u32 {
@@ -30,19 +36,23 @@ impl Suite for Tables {
     fn check(&mut self, block: &Block) -> anyhow::Result<Option<bool>> {
         let setting = Setting::of(block)?;
         let table = over_hash!(setting.hash, deal_table(&setting))?;
-        self.dealt = Some((setting.plan, sha256(&table)));
+        self.dealt = Some(Dealt {
+            plan: setting.plan,
+            digest: sha256(&table),
+        });
         Ok(Some(lends(&table, &setting.plan)))
     }
 
     fn check_line(&mut self, block: &Block, name: &str) -> anyhow::Result<Option<bool>> {
-        let Some((plan, digest)) = &self.dealt else {
+        let Some(dealt) = &self.dealt else {
             return Ok(None);
         };
+        let plan = &dealt.plan;
         let same = match name {
             "dealt_keys" => dealt_keys(plan) == block.number(name)?,
             "part_rows" => part_rows_are(plan, &block.numbers(name)?),
             "table_bytes" => 32 * table_rows(plan) == block.number(name)? as usize,
-            "table_sha256" => *digest == block.array::<32>(name)?,
+            "table_sha256" => dealt.digest == block.array::<32>(name)?,
             _ => return Ok(None),
         };
         Ok(Some(same))
