@@ -23,6 +23,7 @@ pub trait Chaining<const N: usize>: Copy {
 }
 
 /// A message that is taken in: the value after its whole blocks, and the block that is not whole, the first `filled` bytes of the buffer.
+// An array with a count, since a hash is copied in the middle of a message and has no heap.
 pub struct Buffered<C, const N: usize> {
     pub chain: C,
     buffer: [u8; N],
@@ -31,7 +32,7 @@ pub struct Buffered<C, const N: usize> {
     ghost open: { filled < N },
 }
 
-// By hand, since the language derives no `Clone` for a generic struct with a ghost field.
+// By hand: a derived `Clone` of a generic struct with a ghost field is refused (derive-over-ghost-field).
 impl<C: Copy, const N: usize> Clone for Buffered<C, N> {
     ghost is_clone = { λ x y. y ≡ x };
 
@@ -49,7 +50,8 @@ impl<C: Chaining<N>, const N: usize> Buffered<C, N> {
 
     /// Nothing so far.
     pub fn new(chain: C) -> Self
-        ensures { held C.value result ≡ link (C.value chain) [] }
+        ensures empty { held C.value result ≡ link (C.value chain) [] }
+        ensures chain { result.chain ≡ chain }
     {
         Buffered {
             chain,

@@ -55,6 +55,8 @@ pub trait Hash: Copy {
         ensures { result ≡ closed (state self) };
 
     /// Eight messages that go on from one state, each by the first `len` bytes of its tail (all 64 where `len` is more).
+    // The length stands beside the tails: an interface's method has no const parameter, and a type that
+    // bounds it would refuse calls that are allowed.
     fn each(&self, tails: &[[u8; 64]; 8], len: usize) -> [[u8; 32]; 8]
         ensures { (i : ℕ) → i < 8 → slice_index_or result i [] ≡ closed (fed (state self.now) (take len (slice_index_or tails.now i []))) }
     {
@@ -70,6 +72,7 @@ pub trait Hash: Copy {
                 requires { i < 8 }
                 ensures { result ≡ closed (fed (state self.entry.now) (take len (slice_index_or tails.entry.now i []))) }
             {
+                // Not by `finish`: it asks for the whole interface, of which a default body has only a part.
                 let mut message = *self;
                 message.feed(front(&tails[i], len));
                 message.close()

@@ -15,6 +15,9 @@ const INITIAL: [u32; 8] = [
     0x6a09e667, 0xbb67ae85, 0x3c6ef372, 0xa54ff53a, 0x510e527f, 0x9b05688c, 0x1f83d9ab, 0x5be0cd19,
 ];
 
+// The first byte of the padding: the bit 1 and zeros.
+const MARK: u8 = 0x80;
+
 /// The hash value after the whole blocks, with the block that is not whole, and the number of bytes so far.
 #[derive(Clone, Copy)]
 pub struct Hasher {
@@ -86,7 +89,7 @@ impl Hash for Hasher {
 
     fn close(self) -> [u8; 32] {
         let mut words = self.message.chain;
-        let mut block = self.message.ended(0x80);
+        let mut block = self.message.ended(MARK);
         if self.message.room() < 9 {
             words.take_in(&block);
             block = [0; 64];
@@ -96,7 +99,7 @@ impl Hash for Hasher {
     }
 
     fn each(&self, tails: &[[u8; 64]; 8], len: usize) -> [[u8; 32]; 8] {
-        let Some(blocks) = self.message.ended_each(tails, len, 0x80, 8) else {
+        let Some(blocks) = self.message.ended_each(tails, len, MARK, 8) else {
             return self.one_by_one(tails, len);
         };
         let count = self.count.wrapping_add(len as u64);

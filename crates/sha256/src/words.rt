@@ -23,6 +23,8 @@ impl Chaining<64> for Words {
     }
 }
 
+// The hash value as bytes. Each hash joins its words by itself: one function for words of any size would have to say what it gives
+// where they are not 32 bytes in all.
 pub(crate) fn digest(words: &[u32; 8]) -> [u8; 32]
     ensures { result ≡ bytes_of words.now }
 {

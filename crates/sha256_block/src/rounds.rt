@@ -30,7 +30,8 @@ fn round<W: Word>(variables: [W; 8], constant: u32, word: W) -> [W; 8]
     [t1.add(t2), a, b, c, d.add(t1), e, f, g]
 }
 
-// A closure over the words of a type parameter would need clauses longer than these eight sums.
+// The next hash value: each working variable added to its word of the hash value. The eight sums are listed, since the check
+// finds them alone; made by `from_fn` they need a clause and a proof.
 fn sum<W: Word>(variables: &[W; 8], hash: &[W; 8]) -> [W; 8]
     ensures { (i : ℕ) → i < W.count → map (W.at i) result ≡ summed (map (W.at i) hash.now) (vars (map (W.at i) variables.now)) }
 {

@@ -44,12 +44,8 @@ pub(crate) fn load(block: &[u8; 64], t: usize) -> u32
     requires { t < 16 }
     ensures { result ≡ word block.now t }
 {
-    u32::from_be_bytes([
-        block[4 * t],
-        block[4 * t + 1],
-        block[4 * t + 2],
-        block[4 * t + 3],
-    ])
+    let (words, _) = block.as_chunks::<4>();
+    u32::from_be_bytes(words[t])
 }
 
 // Room for the whole schedule, with the words of the block at its front.

@@ -11,6 +11,9 @@ use crate::state::{Lanes, squeeze};
 use hash::Hash;
 use hash::blocks::{Buffered, Chaining};
 
+// The first byte of the padding: the bits 1111, the first bit 1 of pad10*1, and zeros.
+const SUFFIX: u8 = 0x1f;
+
 /// The state after the whole blocks, with the block that is not whole.
 #[derive(Clone, Copy)]
 pub struct Hasher {
@@ -75,7 +78,7 @@ impl Hash for Hasher {
     }
 
     fn close(self) -> [u8; 32] {
-        let mut block = self.message.ended(0x1f);
+        let mut block = self.message.ended(SUFFIX);
         add_last_bit(&mut block);
         let mut lanes = self.message.chain;
         lanes.take_in(&block);
@@ -83,7 +86,7 @@ impl Hash for Hasher {
     }
 
     fn each(&self, tails: &[[u8; 64]; 8], len: usize) -> [[u8; 32]; 8] {
-        let Some(lasts) = self.message.ended_each(tails, len, 0x1f, 0) else {
+        let Some(lasts) = self.message.ended_each(tails, len, SUFFIX, 0) else {
             return self.one_by_one(tails, len);
         };
         end_eight(&self.message.chain.0, &lasts)

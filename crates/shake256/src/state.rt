@@ -32,7 +32,8 @@ pub(crate) fn add_block(lanes: &mut [u64; 25], block: &[u8; 136])
     }
 }
 
-// The first 32 bytes of the state, which are its first four lanes.
+// The first 32 bytes of the state, which are its first four lanes. Joined here, not by one function for both hashes: it would have
+// to say what it gives where the parts are not 32 bytes in all.
 pub(crate) fn squeeze(front: &[u64; 4]) -> [u8; 32]
     ensures { result ≡ squeezed front.now }
 {
