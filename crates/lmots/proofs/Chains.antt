@@ -1,5 +1,5 @@
 -- A chain cut in two is the chain, and a digit is a place in it.
-use Rattle.std.proofs.Common.{◌≡◌, ℕ, zero, suc, ◌+◌, ◌-◌, ◌*◌, ◌/◌, ◌%◌, ◌^◌, ◌≤◌, List, ◌++◌, length, get_or, sym, refl, ap, ◌∙◌, ap₂, fold, add-zero, add_assoc, add-suc, arith}
+use Rattle.std.proofs.Common.{◌≡◌, ℕ, zero, suc, ◌+◌, ◌-◌, ◌*◌, ◌/◌, ◌%◌, ◌^◌, ◌≤◌, List, ◌++◌, length, get_or, sym, ap, ◌∙◌, ap₂, fold, add-zero, add_assoc, add-suc, arith}
 use Rattle.std.specs.List.{range_with_len}
 use lib.Bits.{and_le_l}
 use Rattle.rows.specs.Bytes.{u8str, u16str, u32str}
