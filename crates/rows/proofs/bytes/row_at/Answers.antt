@@ -21,6 +21,6 @@ returns-clause-inside c h =
     let at = c.args.at in
     let d = length-drop at s in
     let e : c.unwrap_or.result.now ≡ drop at s =
-    found _ c.get.result _ _ c.get.ensures.lookup.0 (λ n. elim n [ | inl l ↦ omega arith | inr l ↦ omega arith ]) (λ x f. f.2 ∙ take_all (length s - at) (drop at s) (omega arith)) c.unwrap_or.ensures in
+    found _ c.get.result _ _ c.get.ensures.lookup.0 (λ n. elim n [ inl l ↦ omega arith | inr l ↦ omega arith ]) (λ x f. f.2 ∙ take_all (length s - at) (drop at s) (omega arith)) c.unwrap_or.ensures in
     row c.first_chunk.result _ _ _ _ c.first_chunk.ensures.cases (omega (arith, ap length e)) c.copied.ensures c.unwrap_or-2.ensures
     ∙ ap (take 32) e
