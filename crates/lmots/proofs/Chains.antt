@@ -1,5 +1,6 @@
 -- A chain cut in two is the chain, and a digit is a place in it.
-use Rattle.std.proofs.Common.{◌≡◌, ℕ, zero, suc, ◌+◌, ◌-◌, ◌*◌, ◌/◌, ◌%◌, ◌^◌, ◌≤◌, List, ◌++◌, length, get_or, sym, refl, ap, ◌∙◌, ap₂, add-zero, add_assoc, add-suc, arith}
+use Rattle.std.proofs.Common.{◌≡◌, ℕ, zero, suc, ◌+◌, ◌-◌, ◌*◌, ◌/◌, ◌%◌, ◌^◌, ◌≤◌, List, ◌++◌, length, get_or, sym, ap, ◌∙◌, ap₂, fold, add-zero, add_assoc, add-suc, arith}
+use Rattle.std.specs.List.{range_with_len}
 use lib.Bits.{and_le_l}
 use Rattle.rows.specs.Bytes.{u8str, u16str, u32str}
 use Rattle.lmots.specs.Laws.{ChainCut}
@@ -13,23 +14,23 @@ module _ (hashed : List ℕ → List ℕ) (I : List ℕ) (q i : ℕ) (x : List �
       ap₂ (λ j t. hashed (I ++ u32str q ++ u16str i ++ u8str j ++ t)) (add_assoc a b n) (cut a b n)
       ∙ ap (λ k. chain hashed I q i a k x) (sym (add-suc b n))
 
-  -- in a loop over the steps: none yet, and one more
-  pub chain_none : (a : ℕ) → x ≡ chain hashed I q i a (a - a) x
+  -- the steps from a + m on, folded over what the first m steps make
+  folded : (a m n : ℕ) → fold (λ y j. hashed (I ++ u32str q ++ u16str i ++ u8str j ++ y)) (chain hashed I q i a m x) (range_with_len (a + m) n) ≡ chain hashed I q i a (m + n) x
   unfolding chain
-  chain_none a = let z : 0 ≡ a - a = omega arith in ap (λ n. chain hashed I q i a n x) z
+  folded a m zero = ap (λ k. chain hashed I q i a k x) (sym (add-zero m))
+  folded a m (suc n) =
+      let e : a + m + 1 ≡ a + suc m = omega arith in
+      let d : suc m + n ≡ m + suc n = omega arith in
+      ap (λ b. fold (λ y j. hashed (I ++ u32str q ++ u16str i ++ u8str j ++ y)) (chain hashed I q i a (suc m) x) (range_with_len b n)) e
+      ∙ folded a (suc m) n ∙ ap (λ k. chain hashed I q i a k x) d
 
-  chain_suc : (a n : ℕ) → hashed (I ++ u32str q ++ u16str i ++ u8str (a + n) ++ chain hashed I q i a n x) ≡ chain hashed I q i a (suc n) x
+  pub chain_folded : (a n : ℕ) → fold (λ y j. hashed (I ++ u32str q ++ u16str i ++ u8str j ++ y)) x (range_with_len a n) ≡ chain hashed I q i a n x
   unfolding chain
-  chain_suc a n = refl
-
-  pub chain_more : (a j : ℕ) → a ≤ j →
-      hashed (I ++ u32str q ++ u16str i ++ u8str j ++ chain hashed I q i a (j - a) x) ≡ chain hashed I q i a (j + 1 - a) x
-  chain_more a j h =
-      let e : j ≡ a + (j - a) = omega arith in
-      let f : suc (j - a) ≡ j + 1 - a = omega arith in
-      ap (λ k. hashed (I ++ u32str q ++ u16str i ++ u8str k ++ chain hashed I q i a (j - a) x)) e
-      ∙ chain_suc a (j - a)
-      ∙ ap (λ n. chain hashed I q i a n x) f
+  chain_folded a n =
+      let z : 0 + n ≡ n = omega arith in
+      let o : a ≡ a + 0 = omega arith in
+      ap (λ b. fold (λ y j. hashed (I ++ u32str q ++ u16str i ++ u8str j ++ y)) x (range_with_len b n)) o
+      ∙ folded a 0 n ∙ ap (λ k. chain hashed I q i a k x) z
 
 -- from the step d up to the step e, after the first d steps
 pub chain_cut : ChainCut

@@ -1,3 +1,4 @@
 pub mod LmOts
+pub mod Lanes
 pub mod Laws
 pub mod Refusals

@@ -42,7 +42,7 @@ fn write_chains<H: Hash>(origin: Origin, width: Width, q: u32, first: usize, out
     let lanes = Lanes::<H>::of_chains(origin.id, q, first as u16);
     let mut rows = lanes.starts(origin.seed);
     write_lanes(out, width, first, 0, &rows);
-    // A fold would be no shorter, since each step hashes its own number, and its rows are written there too.
+    // Not by `fold`: the rows of each step are written here too.
     for j in 1..position_count(width) {
         rows = lanes.step((j - 1) as u8, &rows);
         write_lanes(out, width, first, j, &rows);

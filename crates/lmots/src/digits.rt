@@ -7,7 +7,7 @@ ghost use Rattle.lmots.specs.LmOts.{coef, checksum, digit, ls, p, u};
 use rows::{Row, put};
 use sizes::Width;
 
-// The number of chains, p.
+// The number of chains, p, as RFC 8554 lists it.
 pub fn chain_count(width: Width) -> usize
     ensures value { result ≡ p (bits width) }
     ensures few { result ≤ 265 }
@@ -25,12 +25,7 @@ pub fn position_count(width: Width) -> usize
     ensures value { result ≡ 2 ^ bits width }
     ensures few { result ≤ 256 }
 {
-    match width {
-        Width::One => 2,
-        Width::Two => 4,
-        Width::Four => 16,
-        Width::Eight => 256,
-    }
+    1 << width.bits()
 }
 
 // The last position of a chain.
@@ -40,7 +35,7 @@ pub(crate) fn last_position(width: Width) -> u8
     (position_count(width) - 1) as u8
 }
 
-// By how many bits a checksum is shifted to the left.
+// By how many bits a checksum is shifted to the left, as RFC 8554 lists it.
 fn checksum_shift(width: Width) -> u32
     ensures { result ≡ ls (bits width) }
 {

@@ -19,6 +19,7 @@ use std::array;
 const D_PBLK: u16 = 0x8080;
 
 // The ends of all chains of eight keys in a row, by chain and key; behind the last chain they are zero.
+// There is room for the 265 chains of the widest key, since no memory is asked for.
 fn chain_ends<H: Hash>(origin: Origin, width: Width, first: u32) -> [[Row; 8]; 265]
     ensures { (i l : ℕ) → i < p (bits width) → l < 8 →
         slice_index_or (slice_index_or result i []) l [] ≡ X H.Hash.hashed origin.id.bytes origin.seed.bytes ((first + l) % 2 ^ 32) i (2 ^ bits width - 1) }

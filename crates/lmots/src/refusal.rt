@@ -5,7 +5,7 @@ ghost use Rattle.lmots.specs.Refusals.{number_of};
 #[derive(Clone, Copy, PartialEq, Eq, Debug)]
 pub enum Refusal {
     // A buffer has not its exact length.
-    Buffer,
+    Buffer = 20,
 }
 
 impl Refusal {
@@ -13,8 +13,6 @@ impl Refusal {
     pub fn number(&self) -> usize
         ensures { result ≡ number_of self.now }
     {
-        match self {
-            Refusal::Buffer => 20,
-        }
+        *self as usize
     }
 }

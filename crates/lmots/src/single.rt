@@ -22,12 +22,12 @@ pub(crate) fn walk<H: Hash>(id: Identifier, q: u32, i: u16, from: u8, to: u8, x:
     requires { from ≤ to }
     ensures { result ≡ chain H.Hash.hashed id.bytes q i from (to - from) x.now }
 {
-    // A fold would be no shorter, since each step hashes its own number too.
-    let mut y = *x;
-    for j in from..to {
-        y = step::<H>(id, q, i, j, &y);
-    }
-    y
+    (from..to).fold(
+        *x,
+        |y, j| -> Row
+            ensures { result ≡ H.Hash.hashed (id.bytes ++ u32str q ++ u16str i ++ u8str j ++ y) }
+        { step::<H>(id, q, i, j, &y) },
+    )
 }
 
 // The start of a chain.

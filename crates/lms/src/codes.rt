@@ -1,4 +1,5 @@
 // The codes of a height and of a width, and back.
+// They are no `From` or `TryFrom`: a code depends on the hash's base too, and these convert one value alone.
 ghost use Rattle.std.specs.Prelude.{◌≡◌};
 ghost use Rattle.std.specs.Option.{option_map};
 ghost use Rattle.sizes.specs.Sizes.{bits, levels};

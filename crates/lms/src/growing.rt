@@ -58,15 +58,6 @@ fn fill_inner<H: Hash>(id: Identifier, height: Height, nodes: &mut [Row])
     }
 }
 
-// All nodes.
-fn fill<H: Hash>(origin: Origin, height: Height, width: Width, nodes: &mut [Row])
-    requires { length nodes.old ≡ 2 ^ levels height * 2 }
-    ensures { Filled H.Hash.hashed origin.id.bytes origin.seed.bytes (levels height) (bits width) 1 nodes.new }
-{
-    fill_leaves::<H>(origin, height, width, nodes);
-    fill_inner::<H>(origin.id, height, nodes);
-}
-
 impl<H: Hash> Tree<H> {
     // The tree of an identifier and a seed, unless there is no memory for it.
     pub fn grow(
@@ -78,7 +69,8 @@ impl<H: Hash> Tree<H> {
         ensures { IfOk result (λ t. (t.height ≡ height) × (t.width ≡ width) × (t.origin ≡ origin)) }
     {
         let mut nodes = vec![in heap; [0u8; 32]; 2 * height.keys() as usize]?;
-        fill::<H>(origin, height, width, &mut nodes);
+        fill_leaves::<H>(origin, height, width, &mut nodes);
+        fill_inner::<H>(origin.id, height, &mut nodes);
         Ok(Tree {
             height,
             width,

@@ -24,6 +24,7 @@ impl<H: Hash> Tree<H> {
     pub(crate) fn leaf(&self, key: u32) -> Option<Leaf<'_, H>>
         ensures { MatchOption result (2 ^ tall self.now ≤ key) (λ l. (l.tree.now ≡ self.now) × (l.key ≡ key)) }
     {
+        // Not by `then_some`: the leaf is made behind the test, since its type says that the tree has the key.
         if key < self.height.keys() {
             Some(Leaf { tree: self, key })
         } else {

@@ -12,13 +12,14 @@ use hash::Hash;
 use rows::{Identifier, Row, Seed, put};
 
 impl<H: Hash> Tree<H> {
-    // What the tree was grown from.
+    // The identifier that the tree was grown from.
     pub fn identifier(&self) -> Identifier
         ensures { result ≡ self.now.origin.id }
     {
         self.origin.id
     }
 
+    // The seed that the tree was grown from.
     pub fn seed(&self) -> Seed
         ensures { result ≡ self.now.origin.seed }
     {

@@ -5,11 +5,11 @@ ghost use Rattle.lms.specs.Refusals.{number_of, of_one_time};
 #[derive(Clone, Copy, PartialEq, Eq, Debug)]
 pub enum Refusal {
     // The tree has no such key.
-    Key,
+    Key = 9,
     // A buffer has not its exact length.
-    Buffer,
+    Buffer = 20,
     // The message has more than 65,536 bytes.
-    Message,
+    Message = 12,
 }
 
 impl Refusal {
@@ -17,11 +17,7 @@ impl Refusal {
     pub fn number(&self) -> usize
         ensures { result ≡ number_of self.now }
     {
-        match self {
-            Refusal::Key => 9,
-            Refusal::Buffer => 20,
-            Refusal::Message => 12,
-        }
+        *self as usize
     }
 }
 

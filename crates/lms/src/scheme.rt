@@ -1,4 +1,5 @@
 // What a ring needs of a one-time scheme and its tree, and all that it may use of them.
+// For this some functions of `lmots` stand here again, under names of the scheme.
 ghost use Rattle.std.specs.Prelude.{◌≡◌, ◌*◌, ◌≤◌, length, MatchResult, ◌==◌};
 ghost use Rattle.std.specs.Result.{result_err};
 ghost use Rattle.sizes.specs.Sizes.{bits, levels};

@@ -71,7 +71,7 @@ fn leaf_of(height: Height, sig: &[u8]) -> Option<u32>
         (λ q. (q ≡ str_to_u32 (part 0 4 sig.now)) × (q < 2 ^ levels height)) }
 {
     let q = u32_at(sig, 0);
-    if q < height.keys() { Some(q) } else { None }
+    (q < height.keys()).then_some(q)
 }
 
 // Whether a root of this height and width accepts a signature of a message.

@@ -9,13 +9,12 @@ pub fn row_at(bytes: &[u8], at: usize) -> Row
     ensures inside { at + 32 ≤ length bytes.now → result ≡ part at 32 bytes.now }
     ensures outside { length bytes.now < at + 32 → result ≡ replicate 32 0 }
 {
-    if at > bytes.len() {
-        return [0; 32];
-    }
-    match bytes[at..].first_chunk() {
-        Some(row) => *row,
-        None => [0; 32],
-    }
+    bytes
+        .get(at..)
+        .unwrap_or(&[])
+        .first_chunk()
+        .copied()
+        .unwrap_or([0; 32])
 }
 
 // Writes bytes from a place on; where they do not fit, nothing is written.

@@ -1,20 +1,21 @@
-use Rattle.std.proofs.Common.{◌≡◌, ◌++◌, slice_index, ap, ◌∙◌, arith}
+use Rattle.std.proofs.Common.{◌≡◌, ◌++◌, ap, ◌∙◌, arith}
 use Rattle.rows.specs.Bytes.{u8str, u16str, u32str}
 use Rattle.lmots.specs.LmOts.{X, start}
+use Rattle.lmots.specs.Lanes.{chain_at}
 use Rattle.lmots.proofs.Eight.{walk_none, walk_more}
 use Rattle.lmots.proofs.lanes.Lanes.rows_at.Goals as goal
 
 pub loop-j-init : goal.loop-j-init
 loop-j-init g c l h =
     let s = c.args.self.now in
-    c.starts-rows.ensures l h ∙ walk_none g.H.Hash.hashed s.id.bytes (slice_index s.keys l) (slice_index s.chains l) _
+    c.starts-rows.ensures l h ∙ walk_none g.H.Hash.hashed s.id.bytes (chain_at l s.chains).q (chain_at l s.chains).i _
 
 pub loop-j-preserved : goal.loop-j-preserved
 loop-j-preserved g c l h =
     let s = c.args.self.now in
     let H = g.H.Hash.hashed in
-    let q = slice_index s.keys l in
-    let i = slice_index s.chains l in
+    let q = (chain_at l s.chains).q in
+    let i = (chain_at l s.chains).i in
     let j = c.loop-j.j in
     c.step-rows.ensures l h
     ∙ ap (λ t. H (s.id.bytes ++ u32str q ++ u16str i ++ u8str j ++ t)) (c.loop-j.invariant l h)
@@ -25,4 +26,4 @@ returns g c l h =
     let s = c.args.self.now in
     let e : c.loop-j.j ≡ c.args.position = omega arith in
     c.loop-j.invariant l h
-    ∙ ap (X g.H.Hash.hashed s.id.bytes c.args.seed.bytes (slice_index s.keys l) (slice_index s.chains l)) e
+    ∙ ap (X g.H.Hash.hashed s.id.bytes c.args.seed.bytes (chain_at l s.chains).q (chain_at l s.chains).i) e

@@ -1,4 +1,5 @@
 use Rattle.std.proofs.Common.{◌≡◌, ◌*◌, ◌^◌, length, sym, ap, ◌∙◌, subst, rules}
+use Rattle.std.specs.Vec.{with_items}
 use Rattle.std.proofs.lemmas.List.{with_items_is}
 use Rattle.sizes.specs.Sizes.{levels, bits}
 use Rattle.lms.specs.Nodes.{Filled}
@@ -8,9 +9,15 @@ pub invariant_of-result : goal.invariant_of-result
 invariant_of-result g c =
     let a = c.args in
     let v = c.in_ok-nodes.nodes in
-    let l : length c.fill.new.nodes ≡ v.len = search rules in
-    let m : length c.fill.new.nodes ≡ 2 ^ levels c.args.height * 2 = search rules in
+    let leaves = c.fill_leaves.new.nodes in
+    let all = c.fill_inner.new.nodes in
+    let filled = Filled g.H.Hash.hashed a.origin.id.bytes a.origin.seed.bytes (levels a.height) (bits a.width) in
+    let l : length leaves ≡ v.len = search rules in
+    let m : length all ≡ v.len = search rules in
+    let n : length all ≡ 2 ^ levels a.height * 2 = search rules in
+    let lent = c.deref_mut-2.ensures.value ∙ with_items_is v leaves l in
+    let kept = with_items_is (with_items v leaves) all m in
     record {
-      room = ap length (with_items_is v c.fill.new.nodes l) ∙ m;
-      filled = subst (Filled g.H.Hash.hashed a.origin.id.bytes a.origin.seed.bytes (levels a.height) (bits a.width) 1) (sym (with_items_is v c.fill.new.nodes l)) c.fill.ensures;
+      room = ap length kept ∙ n;
+      filled = subst (filled 1) (sym kept) (c.fill_inner.ensures a.origin.seed.bytes (bits a.width) (subst (filled (2 ^ levels a.height)) (sym lent) c.fill_leaves.ensures));
     }
