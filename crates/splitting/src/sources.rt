@@ -46,7 +46,7 @@ pub(crate) fn distinct<P: Pads>(sources: &[P]) -> bool
 pub fn source_of<P: Pads>(sources: &[P], trustee: u8) -> Option<&P>
     ensures { MatchOption result (length sources.now ≤ trustee - 1)
         (λ source. (trustee - 1 < length sources.now) × ((slice_get sources.now (trustee - 1) ≡ Some source.now)
-            × (P.Pads.source source.now ≡ source_of (map P.Pads.source sources.now) trustee))) }
+        × (P.Pads.source source.now ≡ source_of (map P.Pads.source sources.now) trustee))) }
 {
     sources.get(trustee.saturating_sub(1) as usize)
 }
