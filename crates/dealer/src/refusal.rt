@@ -5,17 +5,17 @@ ghost use Rattle.dealer.specs.Refusals.{number_of, handed_on, of_tree};
 #[derive(Clone, Copy, PartialEq, Eq, Debug)]
 pub enum Refusal {
     // There are not as many sources as trustees.
-    Sources,
+    Sources = 8,
     // Two sources have the same check pad for key 0 and a zero prefix.
-    SameChecks,
+    SameChecks = 6,
     // No group owns the key.
-    Undealt,
+    Undealt = 9,
     // A buffer has not its exact length.
-    Buffer,
+    Buffer = 20,
     // The source of a member does not hold the key.
-    NotHeld,
+    NotHeld = 7,
     // The message has more than 65,536 bytes.
-    Message,
+    Message = 12,
 }
 
 impl Refusal {
@@ -23,14 +23,7 @@ impl Refusal {
     pub fn number(&self) -> usize
         ensures { result ≡ number_of self.now }
     {
-        match self {
-            Refusal::Sources => 8,
-            Refusal::SameChecks => 6,
-            Refusal::Undealt => 9,
-            Refusal::Buffer => 20,
-            Refusal::NotHeld => 7,
-            Refusal::Message => 12,
-        }
+        *self as usize
     }
 }
 

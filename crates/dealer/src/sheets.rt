@@ -22,7 +22,8 @@ use plan::Group;
 use rows::{Row, put, put_row};
 use splitting::{check, source_of};
 
-// A trustee's check pad for a key and a prefix.
+// A trustee's check pad for a key and a prefix. This is no `map_or`, since a proof learns nothing from a closure over an array with no clause of
+// its own, and the clause would be as long as the arms.
 fn check_pad<P: Pads>(sources: &[P], trustee: u8, key: u32, prefix: &Row) -> Row
     ensures { result ≡ (source_of (map P.Pads.source sources.now) trustee).check key prefix.now }
 {

@@ -7,8 +7,8 @@ use crate::interface::Helper;
 use crate::refusal::Refusal;
 use rows::Row;
 
-// The rows that were read last, over all keys together, sixteen of them, since no memory is asked for. `next` is the place for another, counted
-// round and round.
+// The rows that were read last, over all keys together, sixteen of them, in an array, so that no memory is asked for. `next` is the place for
+// another, counted round and round.
 #[derive(Drop)]
 pub struct Cache<H: Helper> {
     below: H,

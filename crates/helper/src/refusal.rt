@@ -5,7 +5,7 @@ ghost use Rattle.helper.specs.Refusals.{number_of};
 #[derive(Clone, Copy, PartialEq, Eq, Debug)]
 pub enum Refusal {
     // The helper holds no row of that key at that index.
-    Beyond,
+    Beyond = 19,
 }
 
 impl Refusal {
@@ -13,8 +13,6 @@ impl Refusal {
     pub fn number(&self) -> usize
         ensures { result ≡ number_of self.now }
     {
-        match self {
-            Refusal::Beyond => 19,
-        }
+        *self as usize
     }
 }

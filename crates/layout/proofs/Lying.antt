@@ -189,14 +189,14 @@ pub record Laid (p : Shape) (n : ℕ) (all : List Section) (start : ℕ) : Type 
   pub behind : Behind n all
   pub at : start ≡ start_of p n
 
-pub laid_none : (p : Shape) → Laid p 0 (replicate 70 (record { first = 0; count = 0; rows = 0; start = 0 })) 0
-laid_none p =
-    let none : Section = record { first = 0; count = 0; rows = 0; start = 0 } in
+-- no group yet: each section has no key
+pub laid_none : (p : Shape) (none : Section) → none.count ≡ 0 → Laid p 0 (replicate 70 none) 0
+laid_none p none e =
     let long = length-replicate 70 none in
     record {
       long = long;
       front = λ j d l. absurd (omega arith);
-      behind = λ j d l m. ap (λ (s : Section). s.count) (get_or-replicate 70 j none d (omega arith));
+      behind = λ j d l m. ap (λ (s : Section). s.count) (get_or-replicate 70 j none d (omega arith)) ∙ e;
       at = start_none p;
     }
 

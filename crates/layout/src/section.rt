@@ -4,7 +4,7 @@ ghost use Rattle.plan.specs.Keys.{in_range};
 ghost use Rattle.layout.specs.Table.{place_in};
 
 // The keys from `first` on, `count` many, have parts of `rows` rows each; `start` rows lie before the first of them.
-#[derive(Clone, Copy, PartialEq, Eq, Debug)]
+#[derive(Clone, Copy, PartialEq, Eq, Debug, Default)]
 pub struct Section {
     pub first: u32,
     pub count: u32,

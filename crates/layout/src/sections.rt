@@ -17,20 +17,13 @@ pub struct Sections {
     pub all: [Section; 70],
 }
 
-const NONE: Section = Section {
-    first: 0,
-    count: 0,
-    rows: 0,
-    start: 0,
-};
-
 impl Sections {
     // The sections of a plan: each key has that of its owner, and parts lie in the table by rising key, none over another.
     pub fn of(plan: &Plan) -> Sections
         ensures owners { (key : ℕ) → find result.all key ≡ option_map (section_of (view plan.now)) (owner (view plan.now) key) }
         ensures places { Places (view plan.now) }
     {
-        let mut all = [NONE; 70];
+        let mut all = [Section::default(); 70];
         let mut start = 0;
         for group in plan.iter() {
             let rows = part_rows(plan.height(), plan.width(), &group);

@@ -1,4 +1,4 @@
-// A ledger of 1,024 bits, one a key: as many as the taller tree has, since no memory is asked for.
+// A ledger of 1,024 bits, one a key of the taller tree, in an array, so that no memory is asked for.
 ghost use Rattle.std.specs.Prelude.{◌≡◌};
 ghost use Rattle.sizes.specs.Sizes.{levels};
 ghost use Rattle.ledger.specs.Marks.{of_marks};

@@ -5,9 +5,9 @@ ghost use Rattle.ledger.specs.Refusals.{number_of};
 #[derive(Clone, Copy, PartialEq, Eq, Debug)]
 pub enum Refusal {
     // The key is spent already.
-    Spent,
+    Spent = 11,
     // The ledger has no room for another key.
-    NoRoom,
+    NoRoom = 15,
 }
 
 impl Refusal {
@@ -15,9 +15,6 @@ impl Refusal {
     pub fn number(&self) -> usize
         ensures { result ≡ number_of self.now }
     {
-        match self {
-            Refusal::Spent => 11,
-            Refusal::NoRoom => 15,
-        }
+        *self as usize
     }
 }

@@ -122,8 +122,7 @@ impl<'s> Cursor<'s> {
 
     // The next quantity of the heading.
     pub(crate) fn quantity<Q: Quantity>(&mut self) -> Result<Q, Refusal>
-        requires line { self.old.line ≡ 1 }
-        requires field { self.old.field ≤ 4 }
+        requires { self.old.field ≤ 4 }
         ensures value { MatchResult result (λ q. (quantity_fault Q.Quantity.allowed self.old.line self.old.field (field_at 6 self.old.sheet.now self.old.line self.old.field) ≡ None) × (Q.Quantity.amount q ≡ worth (field_at 6 self.old.sheet.now self.old.line self.old.field)) × (Q.Quantity.allowed (Q.Quantity.amount q) ≡ true)) (λ e. quantity_fault Q.Quantity.allowed self.old.line self.old.field (field_at 6 self.old.sheet.now self.old.line self.old.field) ≡ Some e) }
         ensures moved { (self.new.sheet.now ≡ self.old.sheet.now) × (self.new.line ≡ self.old.line) × (self.new.field ≡ self.old.field + 1) }
     {

@@ -4,7 +4,8 @@ ghost use Rattle.sizes.specs.Sizes.{levels, bits, is_height, is_width};
 
 use sizes::{Height, Width};
 
-// What a number of the heading may be, and what it then is.
+// What a number of the heading may be, and what it then is. `of` stands beside TryFrom, since a range has no type of its own elsewhere, and the
+// trait's meaning is what the sheet allows.
 pub(crate) trait Quantity: Sized {
     ghost allowed: { ℕ → Bool };
 

@@ -9,7 +9,8 @@ use std::alloc::{AllocError, Global};
 // More bytes than this are refused unread.
 pub const MOST_BYTES: usize = 4096;
 
-// What is printed: the key ranges of a plan, or a refusal.
+// What is printed: the key ranges of a plan, or a refusal. This is no Result, since a refusal is printed as well, and a
+// `Result<Result<String, String>, AllocError>` would be no plainer.
 #[derive(Drop)]
 pub enum Report {
     Ranges(String),

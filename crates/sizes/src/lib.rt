@@ -1,4 +1,5 @@
-// The two sizes of a tree: its height, and the width of the digits that its one-time keys sign.
+// The two sizes of a tree: its height, and the width of the digits that its one-time keys sign. No struct holds both: one-time signatures have
+// a width and no height, and ledgers a height and no width.
 #![tactic(auto)]
 
 mod height;

@@ -3,7 +3,7 @@ ghost use Rattle.std.specs.Prelude.{◌≡◌, ℕ, ◌+◌, ◌*◌, ◌<◌, �
 ghost use Rattle.rows.specs.Bytes.{row_at, xored};
 ghost use Rattle.plan.specs.Members.{members};
 ghost use Rattle.splitting.specs.KeyParts.{label_in};
-ghost use Rattle.splitting.specs.Sources.{source_of, padded};
+ghost use Rattle.splitting.specs.Sources.{padded};
 
 use crate::key_part::KeyPart;
 use crate::sources::source_of;
@@ -36,17 +36,6 @@ fn add_pads<P: Pads>(source: &P, part: KeyPart, out: &mut [u8])
     }
 }
 
-// Adds a trustee's pads.
-fn add_pads_of<P: Pads>(sources: &[P], trustee: u8, part: KeyPart, out: &mut [u8])
-    requires { length out.old ≤ 32 * 8723 }
-    ensures { (m : ℕ) → 32 * (m + 1) ≤ length out.old →
-        row_at m out.new ≡ xored (row_at m out.old) ((source_of (map P.Pads.source sources.now) trustee).pad (label_in part m)) }
-{
-    if let Some(source) = source_of(sources, trustee) {
-        add_pads(source, part, out);
-    }
-}
-
 // Adds the pads of all members of a group.
 pub(crate) fn add_all<P: Pads>(sources: &[P], group: &Group, part: KeyPart, out: &mut [u8])
     requires { length out.old ≤ 32 * 8723 }
@@ -54,6 +43,8 @@ pub(crate) fn add_all<P: Pads>(sources: &[P], group: &Group, part: KeyPart, out:
         row_at m out.new ≡ padded (map P.Pads.source sources.now) (members group.now.mask) (label_in part m) (row_at m out.old) }
 {
     for trustee in group.members() {
-        add_pads_of(sources, trustee, part, out);
+        if let Some(source) = source_of(sources, trustee) {
+            add_pads(source, part, out);
+        }
     }
 }

@@ -5,15 +5,15 @@ ghost use Rattle.splitting.specs.Refusals.{number_of};
 #[derive(Clone, Copy, PartialEq, Eq, Debug)]
 pub enum Refusal {
     // There are not as many sources as trustees.
-    Sources,
+    Sources = 8,
     // Two sources have the same check pad for key 0 and a zero prefix.
-    SameChecks,
+    SameChecks = 6,
     // No group owns the key.
-    Undealt,
+    Undealt = 9,
     // A buffer has not its exact length.
-    Buffer,
+    Buffer = 20,
     // The source of a member does not hold the key.
-    NotHeld,
+    NotHeld = 7,
 }
 
 impl Refusal {
@@ -21,12 +21,6 @@ impl Refusal {
     pub fn number(&self) -> usize
         ensures { result ≡ number_of self.now }
     {
-        match self {
-            Refusal::Sources => 8,
-            Refusal::SameChecks => 6,
-            Refusal::Undealt => 9,
-            Refusal::Buffer => 20,
-            Refusal::NotHeld => 7,
-        }
+        *self as usize
     }
 }

@@ -1,5 +1,5 @@
 // What is asked of the trustees' pad sources.
-ghost use Rattle.std.specs.Prelude.{◌≡◌, ◌-◌, ◌<◌, ◌≤◌, map, length, replicate, MatchOption};
+ghost use Rattle.std.specs.Prelude.{◌≡◌, ◌-◌, ◌<◌, ◌≤◌, map, length, replicate, Some, slice_get, MatchOption};
 ghost use Rattle.std.specs.Str.{bytes_eq};
 ghost use Rattle.plan.specs.Members.{members};
 ghost use Rattle.splitting.specs.Sources.{clash, clashes_any, distinct, source_of, all_hold};
@@ -42,10 +42,11 @@ pub(crate) fn distinct<P: Pads>(sources: &[P]) -> bool
     true
 }
 
-// A trustee's source, where there is one.
+// A trustee's source, where there is one; trustee 0 counts as the first.
 pub fn source_of<P: Pads>(sources: &[P], trustee: u8) -> Option<&P>
     ensures { MatchOption result (length sources.now ≤ trustee - 1)
-        (λ source. (trustee - 1 < length sources.now) × (P.Pads.source source.now ≡ source_of (map P.Pads.source sources.now) trustee)) }
+        (λ source. (trustee - 1 < length sources.now) × ((slice_get sources.now (trustee - 1) ≡ Some source.now)
+        × (P.Pads.source source.now ≡ source_of (map P.Pads.source sources.now) trustee))) }
 {
     sources.get(trustee.saturating_sub(1) as usize)
 }

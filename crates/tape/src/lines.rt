@@ -61,6 +61,7 @@ fn is_fresh(line: [u8; 6], limit: u32, rest: &[u8]) -> bool
 pub(crate) fn are_sound(bytes: &[u8], limit: u32) -> bool
     ensures { result ≡ sound limit (lines bytes.now) }
 {
+    // A chain would give each line, and not the bytes behind it, which are needed too.
     let mut left = Lines(bytes);
     while let Some(line) = left.next() {
         if is_unused(line) {

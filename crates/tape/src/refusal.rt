@@ -5,7 +5,7 @@ ghost use Rattle.tape.specs.Refusals.{number_of};
 #[derive(Clone, Copy, PartialEq, Eq, Debug)]
 pub enum Refusal {
     // The bytes are not whole lines, used ones with distinct keys of the tree and then unused ones.
-    Damaged,
+    Damaged = 21,
 }
 
 impl Refusal {
@@ -13,8 +13,6 @@ impl Refusal {
     pub fn number(&self) -> usize
         ensures { result ≡ number_of self.now }
     {
-        match self {
-            Refusal::Damaged => 21,
-        }
+        *self as usize
     }
 }

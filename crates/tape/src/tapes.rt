@@ -27,9 +27,7 @@ impl<'a> Tape<'a> {
         ensures answer { result_err result ≡ tape_fault (levels height) bytes.now }
         ensures law { TapesHold }
     {
-        if bytes.len() % 6 != 0 {
-            return Err(Refusal::Damaged);
-        }
+        Tape::check_new(bytes)?;
         if !are_sound(bytes, height.keys()) {
             return Err(Refusal::Damaged);
         }

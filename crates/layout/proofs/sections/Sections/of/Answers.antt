@@ -20,7 +20,7 @@ far plan n start rows g at er turn =
     omega (arith, reached, start_within plan (n + 1) (omega (arith, turn.0)))
 
 pub loop-group-init : goal.loop-group-init
-loop-group-init c = laid_none (view c.args.plan.now)
+loop-group-init c = laid_none (view c.args.plan.now) c.default-all.result c.default-all.ensures.1.0
 
 pub offset_bounds-all-group : goal.offset_bounds-all-group
 offset_bounds-all-group c =

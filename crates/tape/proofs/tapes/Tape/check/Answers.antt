@@ -1,19 +1,33 @@
-use Rattle.std.proofs.Common.{◌≡◌, ◌^◌, true, false, Some, None, sym, ap, ◌∙◌, ⊎_elim}
-use Rattle.std.proofs.lemmas.Bool.{cases_Bool, cond-true, cond-false}
+use Rattle.std.proofs.Common.{◌≡◌, ℕ, ◌^◌, true, false, List, Some, None, sym, ap, ◌∙◌, ⊎_elim, arith}
+use Rattle.std.specs.Result.{result_err}
+use Rattle.std.proofs.lemmas.Bool.{cases_Bool, cond-true, cond-false, eq-eqb, false≢true}
+use Rattle.std.proofs.lemmas.Result.{err_from_is_err_and}
+use Rattle.sizes.specs.declared.height.Height.{Height}
 use Rattle.sizes.specs.Sizes.{levels}
 use Rattle.plan.proofs.Found.{keys_most}
+use Rattle.tape.specs.declared.refusal.Refusal.{Refusal}
 use Rattle.tape.specs.declared.refusal.Refusal.TheVariants.{Damaged}
 use Rattle.tape.specs.Lines.{lines, sound}
-use Rattle.tape.specs.Tapes.{accepted}
+use Rattle.tape.specs.Tapes.{accepted, whole_lines, tape_fault, new_fault}
 use Rattle.tape.proofs.Taping.{tapes_hold, whole}
 use Rattle.tape.proofs.tapes.Tape.check.Goals as goal
 
-pub returns-then-bytes-ne0 : goal.returns-then-bytes-ne0
-returns-then-bytes-ne0 c =
-    let h = levels c.args.height in
-    let bytes = c.args.bytes.now in
-    let refused : accepted h bytes ≡ false = ⊎_elim (λ (e : accepted h bytes ≡ true). absurd (c.if-bytes-ne0.true (whole (2 ^ h) bytes (keys_most c.args.height) e))) (λ (e : accepted h bytes ≡ false). e) (cases_Bool (accepted h bytes)) in
-    record { answer = sym (cond-false (accepted h bytes) None (Some Damaged) refused); law = tapes_hold }
+-- bytes that are refused for a new tape are refused for any
+refused : (height : Height) (bytes : List ℕ) (why : Refusal) → new_fault bytes ≡ Some why → tape_fault (levels height) bytes ≡ Some why
+refused height bytes why e =
+    let h = levels height in
+    ⊎_elim
+    (λ (w : whole_lines bytes ≡ true). let z : None ≡ Some why = sym (cond-true (whole_lines bytes) None (Some Damaged) w) ∙ e in let y : ◌≡◌ {A = ℕ} 0 1 = cc in absurd (omega arith))
+    (λ (w : whole_lines bytes ≡ false).
+    let no : accepted h bytes ≡ false = ⊎_elim (λ (a : accepted h bytes ≡ true). absurd (false≢true (sym w ∙ eq-eqb _ _ (whole (2 ^ h) bytes (keys_most height) a)))) (λ (a : accepted h bytes ≡ false). a) (cases_Bool (accepted h bytes)) in
+    cond-false (accepted h bytes) None (Some Damaged) no ∙ sym (cond-false (whole_lines bytes) None (Some Damaged) w) ∙ e)
+    (cases_Bool (whole_lines bytes))
+
+pub returns-in_err-check_new : goal.returns-in_err-check_new
+returns-in_err-check_new c =
+    let q = err_from_is_err_and c.from_residual.result c.from_residual.ensures.1 in
+    let told = sym c.check_new.ensures ∙ ap result_err c.in_err-check_new.was in
+    record { answer = rw (q.1, q.2) (sym (refused c.args.height c.args.bytes.now c.in_err-check_new.field-0.0 told)); law = tapes_hold }
 
 pub returns-then-not-are_sound : goal.returns-then-not-are_sound
 returns-then-not-are_sound c =
