@@ -1,5 +1,5 @@
 // The blocks of a vector file: lines of the form `name = value`, ended by a blank line.
-ghost use Rattle.std.specs.Prelude.{◌≡◌, ℕ, List, [], Some, IfOk};
+ghost use Rattle.std.specs.Prelude.{◌≡◌, ℕ, List, [], Some, None, IfOk, MatchResult};
 ghost use Rattle.std.specs.Option.{option_map};
 ghost use Rattle.vector_files.specs.Blocks.{value_of};
 ghost use Rattle.vector_files.specs.Hex.{decoded};
@@ -81,7 +81,7 @@ impl<'t> Block<'t> {
 
     // A value that the block has to have.
     pub fn required(&self, name: &str) -> anyhow::Result<&'t str>
-        ensures { IfOk result (λ t. value_of name.now self.now.fields.items ≡ Some t.now) }
+        ensures { MatchResult result (λ t. value_of name.now self.now.fields.items ≡ Some t.now) (λ _. value_of name.now self.now.fields.items ≡ None) }
     {
         self.text(name).context("a vector lacks a value")
     }
