@@ -12,7 +12,7 @@ use crate::refusal::Refusal;
 use crate::tally::Tally;
 use sizes::{Height, Width};
 
-// Line and field count from 1. The line is one of the sheet's, and the field is at most one behind its last.
+// Line and field are counted up by hand, since that is what a cursor is for. They count from 1: the line is one of the sheet's, and the field is at most one behind its last.
 #[derive(Drop)]
 pub(crate) struct Cursor<'s> {
     sheet: &'s [u8],

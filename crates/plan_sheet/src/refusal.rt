@@ -20,7 +20,7 @@ pub enum Refusal {
 }
 
 impl Refusal {
-    // The public number.
+    // The public number, by a match, since the cases carry values and so have no numbers of their own.
     pub fn number(&self) -> usize
         ensures { result ≡ number_of self.now }
     {

@@ -1,4 +1,4 @@
-// The width of a digit in bits.
+// The width of a digit in bits. A type beside that of heights, since numbers and error text are all that either is.
 ghost use Rattle.std.specs.Prelude.{◌≡◌, true, false, MatchResult, Some, codes};
 ghost use Rattle.sizes.specs.Sizes.{bits, is_width};
 

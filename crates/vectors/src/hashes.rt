@@ -8,6 +8,7 @@ use vector_files::{Block, HashName, Suite, over_hash};
 #[derive(Drop)]
 pub(crate) struct Digests;
 
+// A switch, since the calls that are tried are each hash's own, of two names.
 impl Suite for Digests {
     fn check(&mut self, block: &Block) -> anyhow::Result<Option<bool>> {
         let message = block.message()?;

@@ -1,12 +1,12 @@
 // Pads and check pads, by HMAC and of books.
 use crate::signatures::{height_of, width_of};
 use anyhow::Context;
+use hash::Hash;
 use pads::{Book, HmacPads, Label, Pads};
 use rows::Row;
-use sha256::{Hasher as Sha256, sha256};
-use shake256::Hasher as Shake256;
+use sha256::sha256;
 use sizes::{Height, Width};
-use vector_files::{Block, HashName, Suite};
+use vector_files::{Block, HashName, Suite, over_hash};
 
 fn label_of(block: &Block) -> anyhow::Result<Label> {
     Ok(Label {
@@ -30,16 +30,18 @@ fn answers<P: Pads>(source: &P, block: &Block) -> anyhow::Result<bool> {
     Ok(source.pad(label) == pad && eight[7] == pad)
 }
 
+// Whether the HMAC source of a key answers so.
+fn keyed_answers<H: Hash>(key: &[u8; 32], block: &Block) -> anyhow::Result<bool> {
+    answers(&HmacPads::<H>::new(key), block)
+}
+
 #[derive(Drop)]
 pub(crate) struct HmacSources;
 
 impl Suite for HmacSources {
     fn check(&mut self, block: &Block) -> anyhow::Result<Option<bool>> {
         let key = block.array("key_bytes")?;
-        let answered = match HashName::of(block)? {
-            HashName::Sha256 => answers(&HmacPads::<Sha256>::new(&key), block)?,
-            HashName::Shake256 => answers(&HmacPads::<Shake256>::new(&key), block)?,
-        };
+        let answered = over_hash!(HashName::of(block)?, keyed_answers(&key, block))?;
         if block.text("prefix").is_some() {
             return Ok(Some(answered));
         }
