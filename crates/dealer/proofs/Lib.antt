@@ -1,4 +1,3 @@
-pub mod Signing
 pub mod Laying
 pub mod Placing
 pub mod Tabling

@@ -1,7 +1,6 @@
 -- A part, written at its place in the table.
 use borrow.Rule.Slice.PartMut.{put_mid}
-use Rattle.std.proofs.Common.{◌≡◌, ℕ, ◌+◌, ◌-◌, ◌*◌, Bool, true, false, eqb, List, ◌++◌, length, take, drop, Some, None, Ok, Err, Option, sym, refl, ap, ◌∙◌, ap₂, ⊎_elim, append_assoc, arith}
-use Rattle.std.specs.Option.{option_map}
+use Rattle.std.proofs.Common.{◌≡◌, ℕ, ◌+◌, ◌-◌, ◌*◌, Bool, true, false, eqb, List, ◌++◌, length, take, drop, Some, None, Option, sym, refl, ap, ◌∙◌, ap₂, ⊎_elim, append_assoc, arith}
 use Rattle.std.proofs.lemmas.List.{take-append-drop}
 use Rattle.std.proofs.lemmas.Bool.{cases_Bool, cond-false, eq-eqb, ne_eqb, eqb-true}
 use Rattle.rows.specs.Bytes.{part}
@@ -11,12 +10,10 @@ use Rattle.plan.specs.Keys.{owner}
 use Rattle.layout.specs.Table.{rows_of_group, table_rows, section_of, place_in, by_owner, part_start, part_size}
 use Rattle.layout.proofs.Lying.{in_whole}
 use Rattle.pads.specs.Source.{Source}
-use Rattle.splitting.specs.declared.refusal.Refusal.{Refusal}
 use Rattle.splitting.specs.declared.refusal.Refusal.TheVariants.{Sources, SameChecks, Buffer, NotHeld}
 use Rattle.splitting.specs.Sources.{distinct, all_hold}
-use Rattle.splitting.specs.Split.{unless, members_of, of_owner, refusal_if, part_long, refusal, split_for, answer, split}
+use Rattle.splitting.specs.Split.{unless, members_of, of_owner, refusal_if, part_long, refusal}
 use Rattle.splitting.proofs.Undone.{all_passed}
-use Rattle.dealer.specs.Refusals.{handed_on}
 use Rattle.dealer.specs.Tabled.{written_at, at_place, tabled}
 
 -- ---- what is refused
@@ -49,17 +46,6 @@ module _ (p : Shape) (sources : List Source) (key n : ℕ) where
       (λ (t : whole ≡ true). eqb-true _ _ t)
       (λ (f : whole ≡ false). let none = size_none f in let long = all.long in absurd (omega arith))
       (cases_Bool whole)
-
--- the same sheet is not refused by the one and taken by the other
-pub both : (p : Shape) (sources : List Source) (key n : ℕ) (sheet : List ℕ) {e : Refusal} → n ≡ length sheet → None ≡ option_map handed_on (refusal p sources key n) → split p sources key sheet ≡ Err e → ⊥
-both p sources key n sheet {e = e} l none err =
-    let fine : refusal p sources key (length sheet) ≡ None = ap (refusal p sources key) (sym l) ∙ unmapped (refusal p sources key n) none in
-    let ok : Ok (split_for p sources key sheet (owner p key)) ≡ Err e = sym (ap (λ r. answer r (split_for p sources key sheet (owner p key))) fine) ∙ err in
-    let z : ◌≡◌ {A = ℕ} 0 1 = cc in absurd (omega arith)
-  where
-    unmapped : (o : Option Refusal) → None ≡ option_map handed_on o → o ≡ None
-    unmapped None h = refl
-    unmapped (Some x) h = let z : ◌≡◌ {A = ℕ} 0 1 = cc in absurd (omega arith)
 
 -- ---- bytes in the middle
 pub put_in : (a e : ℕ) (xs ys : List ℕ) → length ys ≡ e - a → put_mid a (e - a) xs ys ≡ take a xs ++ ys ++ drop (a + length ys) xs

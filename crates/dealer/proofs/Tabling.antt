@@ -26,9 +26,6 @@ in_drop t e m n l = let s : e + (m - e) ≡ m = omega arith in ap (take n) (drop
 
 -- ---- some bytes written at a place
 module _ (a : ℕ) (bytes table : List ℕ) (room : a + length bytes ≤ length table) where
-  front : List ℕ
-  front = take a table ++ bytes
-
   front_long : length (take a table ++ bytes) ≡ a + length bytes
   front_long = length-append (take a table) bytes ∙ ap (λ n. n + length bytes) (length-take-le a table (omega arith))
 

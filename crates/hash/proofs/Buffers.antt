@@ -28,12 +28,6 @@ mark n m at t b h k q =
     ∙ sym (append_assoc t z (0 ∷ r)) in
     ap (λ u. set u at m) cut ∙ set_at (t ++ z) 0 r m at lz ∙ append_assoc t z (m ∷ r)
 
--- where t ends at the mark
-pub ended_at : (n m at : ℕ) (t : List ℕ) → length t ≡ at → t ++ (replicate (at - length t) 0 ++ (m ∷ replicate (n - 1 - at) 0)) ≡ ended n m t
-ended_at n m at t l =
-    let none : at - length t ≡ 0 = omega arith in
-    ap (λ i. t ++ (replicate i 0 ++ (m ∷ replicate (n - 1 - at) 0))) none ∙ ap (λ i. t ++ (m ∷ replicate (n - 1 - i) 0)) (sym l)
-
 -- where x is written at the end of t, and ends at the mark
 pub ended_more : (n m at f : ℕ) (t x b : List ℕ) → length t ≡ f → f + length x ≡ at → b ≡ t ++ (replicate (at - length t) 0 ++ (m ∷ replicate (n - 1 - at) 0)) →
     written b f x ≡ ended n m (t ++ x)

@@ -2,10 +2,10 @@
 use Rattle.std.proofs.Common.{ℕ, zero, suc, ◌+◌, ◌*◌, ◌/◌, ◌%◌, ◌≤◌, eqb, ◌∷◌, length, arith}
 use Rattle.std.proofs.lemmas.Bool.{cond_both}
 use Rattle.sizes.specs.declared.height.Height.{Height}
-use Rattle.sizes.specs.declared.height.Height.TheVariants.{Five, Ten}
 use Rattle.sizes.specs.declared.width.Width.{Width}
 use Rattle.sizes.specs.declared.width.Width.TheVariants.{One, Two, Four, Eight}
 use Rattle.sizes.specs.Sizes.{levels, bits}
+use Rattle.sizes.proofs.Heights.{levels_most}
 use Rattle.plan.specs.Members.{members, members_from}
 use Rattle.lms.specs.Scheme.{components, positions}
 use Rattle.layout.specs.Part.{part_rows}
@@ -28,9 +28,5 @@ components_few Two = omega arith
 components_few Four = omega arith
 components_few Eight = omega arith
 
-pub levels_few : (h : Height) → levels h ≤ 10
-levels_few Five = omega arith
-levels_few Ten = omega arith
-
 pub part_few : (h : Height) (w : Width) (mask : ℕ) → part_rows (levels h) (bits w) (length (members mask)) ≤ 8723
-part_few h w mask = omega (arith, members_few mask, levels_few h, components_few w)
+part_few h w mask = omega (arith, members_few mask, levels_most h, components_few w)

@@ -19,7 +19,8 @@ use Rattle.plan.specs.View.{view}
 use Rattle.plan.specs.Shape.{Shape}
 use Rattle.plan.specs.Keys.{share, first_key, key_count, Owns, in_range, owner_from, owner}
 use Rattle.plan.specs.Laws.{Ranges}
-use Rattle.plan.proofs.Found.{plan_ranges, keys_most}
+use Rattle.sizes.proofs.Heights.{keys_most}
+use Rattle.plan.proofs.Found.{plan_ranges}
 use Rattle.layout.specs.declared.section.Section.{Section}
 use Rattle.layout.specs.Laws.{Places}
 use Rattle.layout.specs.Part.{part_rows}

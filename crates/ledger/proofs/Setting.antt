@@ -8,9 +8,6 @@ use Rattle.std.proofs.lemmas.List.{get_or-set_same, get_or-set_other}
 use Rattle.std.proofs.Math.Bool.{or_comm, or_assoc, or-false}
 use Rattle.std.proofs.lemmas.Bool.{cases_eq, eq-eqb, ne_eqb, leb-false, or_parts, cond-false}
 use Rattle.ledger.specs.declared.refusal.Refusal.{Refusal}
-use Rattle.sizes.specs.declared.height.Height.{Height}
-use Rattle.sizes.specs.declared.height.Height.TheVariants.{Five, Ten}
-use Rattle.sizes.specs.Sizes.{levels}
 use Rattle.ledger.specs.Marks.{marked, of_marks}
 use Rattle.ledger.specs.Standing.{Fresh}
 use Rattle.ledger.specs.Spend.{Spends, spend_refusal}
@@ -57,10 +54,6 @@ module _ (marks : List ℕ) (h key : ℕ) (free : false ≡ (leb (2 ^ h) key || 
 
   pub no_refusal : ◌≡◌ {A = Option Refusal} None (spend_refusal (of_marks marks h) key)
   no_refusal = sym (cond-false _ _ _ (sym free) ∙ cond-false _ _ _ (ne_eqb (2 ^ h) 0 (λ e. omega (arith, pow_pos h))))
-
-pub levels_low : (h : Height) → levels h ≤ 10
-levels_low Five = omega arith
-levels_low Ten = omega arith
 
 -- nothing is marked in zeros
 pub unmarked : (n h : ℕ) → Fresh h (of_marks (replicate n 0) h)

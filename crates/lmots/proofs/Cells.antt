@@ -1,5 +1,5 @@
 -- A buffer of rows by chain and position: row j of chain i stands at i * B + j, where a chain has B positions.
-use Rattle.std.proofs.Common.{◌≡◌, ℕ, zero, suc, ◌+◌, ◌*◌, ◌/◌, ◌%◌, ◌<◌, ◌≤◌, ◌⊎◌, List, ◌++◌, length, sym, ap, ◌∙◌, ap₂, inl, inr, append_assoc, append-nil, add-zero, add-suc, suc-mul, zero-mul, arith, below_more}
+use Rattle.std.proofs.Common.{◌≡◌, ℕ, zero, suc, ◌+◌, ◌*◌, ◌/◌, ◌%◌, ◌<◌, ◌⊎◌, List, ◌++◌, length, sym, ap, ◌∙◌, ap₂, append_assoc, append-nil, add-zero, add-suc, suc-mul, zero-mul}
 use lib.Arith.{digits_div, digits_mod}
 use Rattle.std.proofs.lemmas.Nat.{div-add-mod', div_below, mod_below}
 use Rattle.rows.specs.Bytes.{row_at, rows}
@@ -12,34 +12,6 @@ Written B count first j row n o = (l : ℕ) → l < n → first + l < count → 
 -- what lies elsewhere is as it was
 abbrev pub Kept : ℕ → ℕ → ℕ → List ℕ → List ℕ → Type 0
 Kept B first j o o' = (i k : ℕ) → k < B → (i < first) ⊎ (k ≡ j → ⊥) → row_at (i * B + k) o' ≡ row_at (i * B + k) o
-
--- two places are one only if chain and position are
-same_cell : (a b k j B : ℕ) → k < B → j < B → a * B + k ≡ b * B + j → (a ≡ b) × (k ≡ j)
-same_cell a b k j B hk hj e =
-    (sym (digits_div a hk) ∙ ap (λ n. n / B) e ∙ digits_div b hj, sym (digits_mod a hk) ∙ ap (λ n. n % B) e ∙ digits_mod b hj)
-
-module _
-    (B count first j n : ℕ) (row : ℕ → List ℕ) (s o o' : List ℕ) (hj : j < B)
-    (new : row_at ((first + n) * B + j) o' ≡ row n) (other : (m : ℕ) → (m ≡ (first + n) * B + j → ⊥) → row_at m o' ≡ row_at m o)
-  where
-    pub written_more : Written B count first j row n o → Written B count first j row (n + 1) o'
-    written_more old =
-        below_more (λ l. first + l < count → row_at ((first + l) * B + j) o' ≡ row l) n
-        (λ l m c. other ((first + l) * B + j) (λ e. let z = (same_cell (first + l) (first + n) j j B hj hj e).0 in omega arith) ∙ old l m c)
-        (λ c. new)
-
-    pub kept_more : Kept B first j s o → Kept B first j s o'
-    kept_more old i k hk apart =
-        other (i * B + k)
-        (λ e. let z = same_cell i (first + n) k j B hk hj e in elim apart [ inl l ↦ (let y = z.0 in omega arith) | inr d ↦ d z.1 ])
-        ∙ old i k hk apart
-
--- behind the last chain there is nothing to write
-pub written_past : (B count first j n : ℕ) (row : ℕ → List ℕ) (o o' : List ℕ) → o' ≡ o → count ≤ first + n → Written B count first j row n o →
-    Written B count first j row (n + 1) o'
-written_past B count first j n row o o' e past old =
-    below_more (λ l. first + l < count → row_at ((first + l) * B + j) o' ≡ row l) n
-    (λ l m c. ap (row_at ((first + l) * B + j)) e ∙ old l m c) (λ c. absurd (omega arith))
 
 -- rows one behind another, cut in two
 pub rows_add : (a b : ℕ) (f : ℕ → List ℕ) → rows (a + b) f ≡ rows a f ++ rows b (λ i. f (a + i))

@@ -1,5 +1,5 @@
 -- The digits' places and the checksum's size, width by width.
-use Rattle.std.proofs.Common.{◌≡◌, ℕ, zero, suc, ◌+◌, ◌-◌, ◌*◌, ◌/◌, ◌%◌, ◌^◌, ◌<◌, ◌≤◌, ◌⊎◌, List, ◌++◌, length, sym, refl, ap, ◌∙◌, subst, inl, inr, mul-suc, add-one, map, sum, sum_by, arith, length-append}
+use Rattle.std.proofs.Common.{◌≡◌, ℕ, zero, suc, ◌+◌, ◌-◌, ◌*◌, ◌/◌, ◌%◌, ◌^◌, ◌<◌, ◌≤◌, ◌⊎◌, List, ◌++◌, length, sym, refl, ap, ◌∙◌, subst, inl, inr, mul-suc, map, sum, sum_by, arith, length-append}
 use Rattle.std.specs.List.{range_with_len}
 use native.Mathlib.Nat.{zero-div}
 use lib.Bits.{bit_and, and_zero_r}
@@ -28,9 +28,6 @@ by_width P a b c d w (inr (inl e)) = subst P (sym e) b
 by_width P a b c d w (inr (inr (inl e))) = subst P (sym e) c
 by_width P a b c d w (inr (inr (inr e))) = subst P (sym e) d
 
-pub top_small : (w : ℕ) → Known w → 2 ^ w - 1 ≤ 255
-top_small = by_width (λ w. 2 ^ w - 1 ≤ 255) (omega arith) (omega arith) (omega arith) (omega arith)
-
 -- digits of the digest
 pub in_digest : (i w : ℕ) → Known w → i < u w → (i < 256) × (i * w / 8 < 32)
 in_digest i =
@@ -42,19 +39,10 @@ pub past_string : (i w : ℕ) → Known w → 272 / w ≤ i → 34 ≤ i * w / 8
 past_string i =
     by_width (λ w. 272 / w ≤ i → 34 ≤ i * w / 8) (λ h. omega arith) (λ h. omega arith) (λ h. omega arith) (λ h. omega arith)
 
-pub in_bytes : (i w : ℕ) → Known w → i < 272 / w → (i < 1000) × (i * w / 8 < 34)
-in_bytes i =
-    by_width (λ w. i < 272 / w → (i < 1000) × (i * w / 8 < 34))
-    (λ h. (omega arith, omega arith)) (λ h. (omega arith, omega arith)) (λ h. (omega arith, omega arith)) (λ h. (omega arith, omega arith))
-
 pub coef_past : (w : ℕ) (s : List ℕ) (i : ℕ) → length s ≤ i * w / 8 → coef w s i ≡ 0
 coef_past w s i h =
     ap (λ b. bit_and (2 ^ w - 1) (b / 2 ^ (8 - (w * (i % (8 / w)) + w)))) (get_or_past s (i * w / 8) 0 h)
     ∙ ap (bit_and (2 ^ w - 1)) (zero-div (2 ^ (8 - (w * (i % (8 / w)) + w)))) ∙ and_zero_r (2 ^ w - 1)
-
-pub missing_more : (w : ℕ) (s : List ℕ) (i : ℕ) → missing w s (i + 1) ≡ missing w s i + (2 ^ w - 1 - coef w s i)
-unfolding missing
-missing_more w s i = ap (missing w s) (add-one i)
 
 -- a sum of n digits' complements
 pub missing_le : (w : ℕ) (s : List ℕ) (t : ℕ) → 2 ^ w - 1 ≤ t → (n : ℕ) → missing w s n ≤ t * n

@@ -1,5 +1,5 @@
 -- Codes and numbers read back.
-use Rattle.std.proofs.Common.{◌≡◌, ℕ, ◌+◌, ◌*◌, ◌/◌, ◌^◌, ◌<◌, ◌≤◌, Bool, true, false, cond, eqb, Some, None, refl, arith}
+use Rattle.std.proofs.Common.{◌≡◌, ℕ, ◌+◌, ◌*◌, ◌/◌, ◌^◌, ◌<◌, Bool, true, false, cond, eqb, Some, None, refl, arith}
 use Rattle.std.proofs.lemmas.Bool.{eqb-true, false≢true}
 use Rattle.std.proofs.lemmas.Bool.Decides.{nat_tests}
 use Rattle.sizes.specs.declared.height.Height.{Height}
@@ -28,10 +28,6 @@ tree_code_small tree h o = grind (arith, nat_tests)
 pub number_small : (height : Height) (q : ℕ) → q < 2 ^ levels height → q < 2 ^ 32
 number_small Five q l = omega arith
 number_small Ten q l = omega arith
-
-pub height_low : (height : Height) → levels height < 11
-height_low Five = omega arith
-height_low Ten = omega arith
 
 -- a code that passes a test stands for a height, or for a width
 pub height_given : (tree c : ℕ) (f : ℕ → Bool) → given (height_of tree c) f ≡ true → (height : Height) × (c ≡ tree_code tree (levels height)) × (f (levels height) ≡ true)
@@ -72,7 +68,3 @@ width_given ots c f = one (eqb c ots) refl
 pub eights : (height : Height) → 8 * (2 ^ levels height / 8) ≡ 2 ^ levels height
 eights Five = refl
 eights Ten = refl
-
-pub few : (height : Height) → 2 ^ levels height ≤ 1024
-few Five = omega arith
-few Ten = omega arith

@@ -1,21 +1,17 @@
 -- What a group that was looked up is.
-use Rattle.std.proofs.Common.{◌≡◌, ℕ, ◌+◌, ◌^◌, ◌<◌, ◌≤◌, ltb, leb, [], ◌∷◌, length, get_or, take, drop, Some, None, sym, ap, ◌∙◌, ⊎_elim, zero-add, arith}
+use Rattle.std.proofs.Common.{◌≡◌, ℕ, ◌+◌, ◌^◌, ◌<◌, ◌≤◌, ltb, leb, [], ◌∷◌, length, drop, Some, None, sym, ap, ◌∙◌, ⊎_elim, zero-add, arith}
 use Rattle.std.specs.List.{range_with_len}
-use Rattle.std.proofs.lemmas.List.{length-take-le, get_or-take, at_drop_more, drop_all, length-map}
+use Rattle.std.proofs.lemmas.List.{length-take-le, at_drop_more, drop_all, length-map}
 use Rattle.std.proofs.Math.ListN.{get_or-map}
 use Rattle.std.proofs.lemmas.List.FromFn.{length-range_with_len, get_or-range_with_len}
 use Rattle.std.proofs.lemmas.Bool.{cases_lt, lt-ltb, le-ltb, cond-true, cond-false, and_parts, leb-true}
-use Rattle.sizes.specs.declared.height.Height.{Height}
-use Rattle.sizes.specs.declared.height.Height.TheVariants.{Five, Ten}
-use Rattle.sizes.specs.Sizes.{levels}
 use Rattle.plan.specs.declared.group.Group.{Group}
 use Rattle.plan.specs.declared.plans.Plan.{Plan}
-use Rattle.plan.specs.Shape.{Shape, Valid, is_groups}
+use Rattle.plan.specs.Shape.{Shape}
 use Rattle.plan.specs.Laws.{Ranges}
 use Rattle.plan.specs.View.{view}
 use Rattle.plan.specs.Keys.{first_key, key_count}
 use Rattle.plan.specs.Groups.{group_of, group_at, groups}
-use Rattle.plan.proofs.Copied.{height_is, width_is}
 use Rattle.plan.proofs.Shares.{some, later, dealt, ranges}
 
 module _ (p : Shape) (n : ℕ) where
@@ -44,29 +40,11 @@ module _ (p : Shape) (n : ℕ) where
 pub view_groups : (p : Plan) → length (view p).masks ≡ p.groups
 view_groups p = length-take-le p.groups p.masks p.room
 
-pub view_valid : (p : Plan) → Valid (view p)
-view_valid p =
-    let all = view_groups p in
-    let at : (g : ℕ) → g < p.groups → get_or (take p.groups p.masks) g 0 ≡ get_or p.masks g 0 = λ g l. get_or-take p.groups p.masks g 0 l in
-    record {
-      trustees_in = p.trustees_in;
-      height_in = height_is p.height;
-      width_in = width_is p.width;
-      groups_in = ap is_groups all ∙ p.groups_in;
-      keys_for_all = omega (arith, p.keys_for_all);
-      within = λ g l. let e = at g (omega arith) in let w = p.within g (omega arith) in (omega arith, omega arith);
-      rising = λ g l. omega (arith, at g (omega arith), at (g + 1) (omega arith), p.rising g (omega arith));
-    }
-
 pub plan_ranges : (p : Plan) → Ranges (view p)
 plan_ranges p =
     let all = view_groups p in
     let some = and_parts (leb 1 p.groups) (leb p.groups 70) p.groups_in in
     ranges (view p) (omega (arith, leb-true 1 p.groups some.0)) (omega (arith, p.keys_for_all))
-
-pub keys_most : (h : Height) → 2 ^ levels h ≤ 1024
-keys_most Five = omega arith
-keys_most Ten = omega arith
 
 -- the first of the groups from one on
 pub first_group : (p : Shape) (n : ℕ) (g : Group) → Some g ≡ group_at p n → drop n (groups p) ≡ g ∷ drop (n + 1) (groups p)

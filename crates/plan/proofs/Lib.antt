@@ -1,5 +1,4 @@
 pub mod Tested
 pub mod Seats
 pub mod Shares
-pub mod Copied
 pub mod Found

@@ -4,7 +4,7 @@ use lib.Bits.{bit_and}
 use lib.Count.{ones, count_trailing_zeros}
 use Rattle.std.specs.List.{range_with_len}
 use Rattle.std.specs.Option.{option_map}
-use Rattle.std.proofs.lemmas.Bool.{and_parts, and_left, and_right, cases_Bool, cases_lt, cond_both, cond-true, cond-false, eqb-true, eq-eqb, ne_eqb, lt-leb, le-leb, leb-true, false≢true}
+use Rattle.std.proofs.lemmas.Bool.{and_parts, and_left, and_right, cases_Bool, cases_lt, cond_both, cond-true, cond-false, eqb-true, eq-eqb, ne_eqb, lt-leb, leb-true, false≢true}
 use Rattle.std.proofs.lemmas.Nat.{and_mask, one_shl}
 use Rattle.std.proofs.lemmas.Option.{slice_get-get_or, slice_get_within, get_or_from_slice_get}
 use Rattle.plan.specs.Every.{every}
@@ -60,12 +60,6 @@ place_is mask t small =
     (λ (g : 1 ≤ t).
     ⊎_elim (λ (l : t < 9). same_is _ _ (rest t g l)) (λ (h : 9 ≤ t). nobody (and_right (leb 1 t) _ (and_left (leb t 8) _ (lt-leb t 8 (omega arith)))) (inr (omega arith))) (cases_lt t 9))
     (cases_lt t 1)
-
--- the bits as the code reads them
-pub has_is : (mask t : ℕ) → 1 ≤ t → t ≤ 8 → eqb (bit_and (mask / 2 ^ (t - 1)) 1) 1 ≡ has mask t
-has_is mask t low high =
-    ap (λ b. eqb b 1) (and_mask (mask / 2 ^ (t - 1)) 1)
-    ∙ sym (ap (λ b. b && (leb t 8 && eqb (mask / 2 ^ (t - 1) % 2) 1)) (le-leb 1 t low) ∙ ap (λ b. b && eqb (mask / 2 ^ (t - 1) % 2) 1) (le-leb t 8 high))
 
 pub no_seat : (mask t : ℕ) → mask < 256 → has mask t ≡ false → place t (members mask) ≡ None
 no_seat mask t small out = place_is mask t small ∙ cond-false (has mask t) _ None out

@@ -1,7 +1,7 @@
 -- The steps of the loop over the fields of a group line.
 use Rattle.std.proofs.Common.{◌≡◌, ℕ, zero, suc, ◌+◌, ◌-◌, ◌^◌, ◌<◌, ◌≤◌, Bool, true, false, ◌&&◌, eqb, ltb, List, [], ◌∷◌, ◌++◌, map, Some, None, sym, refl, ap, ◌∙◌, subst, zero-add, arith, pow_mono}
 use Rattle.std.proofs.lemmas.Nat.{pow-add, pow_pos}
-use Rattle.std.proofs.lemmas.Bool.{ne_eqb, lt-ltb, cond-false, ltb-true, false≢true}
+use Rattle.std.proofs.lemmas.Bool.{ne_eqb, cond-false, ltb-true, false≢true}
 use Rattle.plan_sheet.specs.declared.refusal.Refusal.{Refusal}
 use Rattle.plan_sheet.specs.declared.refusal.Refusal.TheVariants.{Members}
 use Rattle.plan_sheet.specs.Entries.{orderly, bit, mask_of}
@@ -24,9 +24,6 @@ add_bit_under mask floor t n small h le = let p = pow_mono le in omega (arith, a
 
 pub bit_some : (t : ℕ) → 1 ≤ t → bit t ≡ 2 ^ (t - 1)
 bit_some t h = cond-false (eqb t 0) 0 (2 ^ (t - 1)) (ne_eqb t 0 (λ e. omega arith))
-
-pub order_some : (fine : Bool) (floor t : ℕ) (ts : List ℕ) → floor < t → (fine && orderly floor (t ∷ ts)) ≡ (fine && orderly t ts)
-order_some fine floor t ts h = ap (λ b. fine && b) (cond-false (eqb t 0) (orderly 8 ts) (ltb floor t && orderly t ts) (ne_eqb t 0 (λ e. omega arith)) ∙ ap (λ b. b && orderly t ts) (lt-ltb floor t h))
 
 -- how far the line is read: the next field, and what the fields before it gave
 pub record Going (s : List ℕ) (l n place floor mask : ℕ) (fine : Bool) : Type 0 where

@@ -24,17 +24,6 @@ pub record Lining (s : List ℕ) (n m i line above : ℕ) (masks : List ℕ) : T
   pub within : Within (2 ^ n) i masks
   pub rising : Rising i masks
 
-pub lining_first : (s : List ℕ) (n m line : ℕ) (masks : List ℕ) → line ≡ 1 → m ≤ length masks → Lining s n m 0 line 0 masks
-lining_first s n m line masks e l = record {
-  at = e;
-  long = l;
-  faults = let k : m ≡ m - 0 = omega arith in ap (λ j. first (map (line_fault s) (range_with_len 2 j))) k;
-  last = refl;
-  each = λ g h. absurd (omega arith);
-  within = λ g h. absurd (omega arith);
-  rising = λ g h. absurd (omega arith);
-}
-
 module _ (s : List ℕ) (n m i line above : ℕ) (masks : List ℕ) (z : Lining s n m i line above masks) (h : i < m) where
   pub lining_split : first (map (line_fault s) (range_with_len 2 m)) ≡ first (line_fault s (i + 2) ∷ map (line_fault s) (range_with_len ((i + 1) + 2) (m - (i + 1))))
   lining_split =

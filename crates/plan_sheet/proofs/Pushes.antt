@@ -10,7 +10,8 @@ use Rattle.plan.specs.declared.group.Group.{Group}
 use Rattle.plan.specs.declared.plans.Plan.{Plan}
 use Rattle.plan.specs.Groups.{group_of, groups}
 use Rattle.plan.specs.View.{view}
-use Rattle.plan.proofs.Found.{view_groups, range_within, keys_most}
+use Rattle.sizes.proofs.Heights.{keys_most}
+use Rattle.plan.proofs.Found.{view_groups, range_within}
 use Rattle.plan_sheet.proofs.Fields.{groups_least}
 use Rattle.columns.specs.Number.{spaces, right}
 

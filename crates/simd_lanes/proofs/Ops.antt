@@ -1,5 +1,5 @@
 -- Lanes of what an operation on vectors gives.
-use Rattle.std.proofs.Common.{◌≡◌, ℕ, zero, suc, ◌<◌, List, [], ◌∷◌, length, get_or, replicate, sym, ap, ◌∙◌, arith}
+use Rattle.std.proofs.Common.{◌≡◌, ℕ, ◌<◌, List, [], ◌∷◌, length, get_or, replicate, sym, ap, ◌∙◌, arith}
 use lib.Lanes.{zip2}
 use Rattle.std.proofs.lemmas.Simd.{length-zip2, get_or-zip2, get_or-replicate, length-replicate}
 use Rattle.std.proofs.lemmas.List.{get_or-map, length-map}
@@ -33,18 +33,6 @@ get_or_lane i vs t h = get_or-map (λ v. get_or v i 0) vs t [] 0 h
 pub length_lane : (i : ℕ) (vs : List (List ℕ)) → length (lane i vs) ≡ length vs
 unfolding lane
 length_lane i vs = length-map vs (λ v. get_or v i 0)
-
--- what holds at each of eight places
-pub each_of_8 : (P : ℕ → Type 0) → P 0 → P 1 → P 2 → P 3 → P 4 → P 5 → P 6 → P 7 → (i : ℕ) → i < 8 → P i
-each_of_8 P a b c d e f g h zero l = a
-each_of_8 P a b c d e f g h (suc zero) l = b
-each_of_8 P a b c d e f g h (suc (suc zero)) l = c
-each_of_8 P a b c d e f g h (suc (suc (suc zero))) l = d
-each_of_8 P a b c d e f g h (suc (suc (suc (suc zero)))) l = e
-each_of_8 P a b c d e f g h (suc (suc (suc (suc (suc zero))))) l = f
-each_of_8 P a b c d e f g h (suc (suc (suc (suc (suc (suc zero)))))) l = g
-each_of_8 P a b c d e f g h (suc (suc (suc (suc (suc (suc (suc zero))))))) l = h
-each_of_8 P a b c d e f g h (suc (suc (suc (suc (suc (suc (suc (suc i)))))))) l = absurd (omega arith)
 
 -- two lists that agree element by element
 pub same : {x y : ℕ} {xs ys : List ℕ} → x ≡ y → xs ≡ ys → (x ∷ xs) ≡ (y ∷ ys)

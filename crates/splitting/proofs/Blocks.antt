@@ -1,5 +1,5 @@
 -- Pads added to rows in blocks of eight.
-use Rattle.std.proofs.Common.{◌≡◌, ℕ, ◌+◌, ◌-◌, ◌*◌, ◌<◌, ◌≤◌, ◌⊎◌, List, length, refl, sym, ap, ◌∙◌, ap₂, inl, inr, ⊎_elim, arith}
+use Rattle.std.proofs.Common.{◌≡◌, ℕ, ◌+◌, ◌-◌, ◌*◌, ◌<◌, ◌≤◌, ◌⊎◌, List, length, sym, ap, ◌∙◌, ap₂, inl, inr, ⊎_elim, arith}
 use Rattle.std.proofs.lemmas.Bool.{cases_lt}
 use Rattle.rows.specs.Bytes.{row_at, xored}
 
@@ -9,9 +9,6 @@ pub record Added (pad : ℕ → List ℕ) (old now : List ℕ) (n : ℕ) : Type 
   pub rest : (m : ℕ) → n ≤ m → row_at m now ≡ row_at m old
 
 module _ (pad : ℕ → List ℕ) (old now new : List ℕ) where
-  pub none_added : Added pad old old 0
-  none_added = record { done = λ m l room. absurd (omega arith); rest = λ m l. refl }
-
   pub eight_added : (n : ℕ) (each : ℕ → List ℕ) → length now ≡ length old → Added pad old now n → ((k : ℕ) → k < 8 → each k ≡ pad (n + k)) →
       ((k : ℕ) → k < 8 → 32 * (n + k + 1) ≤ length now → row_at (n + k) new ≡ xored (row_at (n + k) now) (each k)) →
       ((m : ℕ) → (m < n) ⊎ (n + 8 ≤ m) → row_at m new ≡ row_at m now) → Added pad old new (n + 8)

@@ -1,16 +1,28 @@
 -- What is known of a key once no check refuses it.
-use Rattle.std.proofs.Common.{◌≡◌, ℕ, ◌*◌, ◌^◌, ◌<◌, List, Some, None, sym, ap, ◌∙◌, arith}
+use Rattle.std.proofs.Common.{◌≡◌, ℕ, ◌*◌, ◌^◌, ◌<◌, List, Some, None, Option, sym, refl, ap, ◌∙◌, arith}
+use Rattle.std.specs.Option.{option_map}
 use Rattle.plan.specs.declared.group.Group.{Group}
 use Rattle.plan.specs.declared.plans.Plan.{Plan}
 use Rattle.plan.specs.Groups.{group_of, owning}
 use Rattle.plan.specs.Keys.{owner}
 use Rattle.plan.specs.View.{view}
+use Rattle.plan.specs.Shape.{Shape}
 use Rattle.plan.proofs.Found.{plan_ranges}
 use Rattle.layout.specs.Table.{rows_of_group}
 use Rattle.pads.specs.Source.{Source}
 use Rattle.splitting.specs.Split.{refusal}
-use Rattle.splitting.proofs.Checked.{one_owns}
 use Rattle.splitting.proofs.Undone.{all_passed}
+
+-- the group that was looked up, and its number
+one_owns : (p : Shape) (key : ℕ) (group : Group) → Some group ≡ owning p key → (g : ℕ) × (owner p key ≡ Some g) × (group ≡ group_of p g)
+one_owns p key group e = from (owner p key) e
+  where
+    taken : (x y : Group) → Some x ≡ Some y → x ≡ y
+    taken x y s = cc
+
+    from : (o : Option ℕ) → Some group ≡ option_map (group_of p) o → (g : ℕ) × (o ≡ Some g) × (group ≡ group_of p g)
+    from None h = let z : ◌≡◌ {A = ℕ} 0 1 = cc in absurd (omega arith)
+    from (Some g) h = (g, refl, taken group (group_of p g) h)
 
 pub record Granted (plan : Plan) (key n : ℕ) (group : Group) : Type 0 where
   pub g : ℕ
@@ -22,7 +34,7 @@ pub record Granted (plan : Plan) (key n : ℕ) (group : Group) : Type 0 where
 pub granted : (plan : Plan) (sources : List Source) (key n : ℕ) (group : Group) → refusal (view plan) sources key n ≡ None → owning (view plan) key ≡ Some group → Granted plan key n group
 granted plan sources key n group none owned =
     let p = view plan in
-    let found = one_owns p sources key n group (sym owned) in
+    let found = one_owns p key group (sym owned) in
     let all = all_passed p sources key n none in
     let r = plan_ranges plan in
     let taken : (a b : ℕ) → Some a ≡ Some b → a ≡ b = λ a b h. cc in

@@ -1,5 +1,5 @@
 -- Lists of sources and of members, looked at one after the other.
-use Rattle.std.proofs.Common.{◌≡◌, ℕ, zero, suc, ◌-◌, ◌≤◌, Bool, ◌||◌, List, [], ◌∷◌, ◌++◌, map, length, get_or, replicate, refl, ap, ◌∙◌, ap₂, arith}
+use Rattle.std.proofs.Common.{◌≡◌, ℕ, zero, suc, ◌-◌, ◌≤◌, Bool, ◌||◌, List, [], ◌∷◌, ◌++◌, map, length, get_or, replicate, sym, refl, ap, ◌∙◌, ap₂, arith}
 use lib.Bits.{xor_zero_r}
 use Rattle.std.specs.List.{list_any}
 use Rattle.rows.specs.Bytes.{xored}
@@ -23,15 +23,14 @@ module _ {P : Type 0} (f : P → Source) where
       past (y ∷ ys) zero m = absurd (omega arith)
       past (y ∷ ys) (suc i) m = past ys i (omega arith)
 
-pub map_same : {A : Type 0} (xs : List A) → map (λ x. x) xs ≡ xs
-map_same [] = refl
-map_same (x ∷ xs) = ap (λ ys. x ∷ ys) (map_same xs)
-
 -- ---- members
--- pads of one more member
-pub padded_more : (sources : List Source) (ts : List ℕ) (t : ℕ) (l : Label) (row : List ℕ) → padded sources (ts ++ t ∷ []) l row ≡ xored (padded sources ts l row) ((source_of sources t).pad l)
+-- pads of one more member, added to what holds those of the members before
+padded_more : (sources : List Source) (ts : List ℕ) (t : ℕ) (l : Label) (row : List ℕ) → padded sources (ts ++ t ∷ []) l row ≡ xored (padded sources ts l row) ((source_of sources t).pad l)
 padded_more sources [] t l row = refl
 padded_more sources (u ∷ us) t l row = padded_more sources us t l (xored row ((source_of sources u).pad l))
+
+pub one_more : (sources : List Source) (ts : List ℕ) (t : ℕ) (l : Label) (row old new : List ℕ) → old ≡ padded sources ts l row → new ≡ xored old ((source_of sources t).pad l) → new ≡ padded sources (ts ++ t ∷ []) l row
+one_more sources ts t l row old new before added = added ∙ ap (λ r. xored r ((source_of sources t).pad l)) before ∙ sym (padded_more sources ts t l row)
 
 pub length_padded : (sources : List Source) (ts : List ℕ) (l : Label) (row : List ℕ) → length (padded sources ts l row) ≡ length row
 length_padded sources [] l row = refl

@@ -18,9 +18,6 @@ module _ (k h w key : ℕ) where
   P = positions w
 
   -- ---- the label at each place
-  at_prefix : label_at k h w key 0 ≡ prefix_label key
-  at_prefix = refl
-
   at_check : (i : ℕ) → i < k → label_at k h w key (1 + i) ≡ check_label key i
   at_check i l =
       let e : (1 + i) - 1 ≡ i = omega arith in

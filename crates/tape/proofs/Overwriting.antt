@@ -79,9 +79,6 @@ module _ (intact : Bool) (h : ℕ) (bytes : List ℕ) (key : ℕ) (free : (not i
   pub key_below : key < 2 ^ h
   key_below = leb-false _ _ (or_parts _ _ (or_parts _ _ free).1).0
 
-  pub no_room : blanks (lines bytes) ≡ 0 → ◌≡◌ {A = ℕ} (cond intact (blanks (lines bytes)) 0) 0
-  no_room e = cond-true intact (blanks (lines bytes)) 0 is_intact ∙ e
-
   module _ (i : ℕ) (fits : 6 * i + 6 ≤ length bytes) (first : FirstUnused (lines bytes) i) (small : Small key) where
     pub some_room : (cond intact (blanks (lines bytes)) 0 ≡ 0) → ⊥
     some_room e = omega (arith, cond-true intact (blanks (lines bytes)) 0 is_intact, blanks_set (lines bytes) i key first small)

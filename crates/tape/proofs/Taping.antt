@@ -7,7 +7,7 @@ use Rattle.std.proofs.lemmas.Bool.{and_parts, and_from, cases_Bool, cond-true, c
 use Rattle.sizes.specs.Sizes.{levels}
 use Rattle.columns.specs.Number.{spaces, right, unpadded, number, blank}
 use Rattle.columns.proofs.Text.{padded, number_is, number_right, length_right}
-use Rattle.plan.proofs.Found.{keys_most}
+use Rattle.sizes.proofs.Heights.{keys_most}
 use Rattle.tape.specs.Lines.{lines, line_of, taped, line_key, unused, is_key, lists, blanks, all_unused, fresh_key, sound, spent_on, flat}
 use Rattle.tape.specs.Laws.{among, Distinct, TapesHold}
 

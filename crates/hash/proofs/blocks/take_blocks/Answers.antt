@@ -4,9 +4,6 @@ use Rattle.hash.specs.Chaining.{link, over, chained}
 use Rattle.hash.proofs.Chaining.{chunk_at, over_none, over_more, chained_blocks, chained_short}
 use Rattle.hash.proofs.blocks.take_blocks.Goals as goal
 
-pub as_chunks-requires : goal.as_chunks-requires
-as_chunks-requires g c = let k = g.met.C.Chaining.sized in omega arith
-
 pub loop-block-init : goal.loop-block-init
 loop-block-init g c = sym (over_none g.row.N g.C.Chaining.after _ _)
 

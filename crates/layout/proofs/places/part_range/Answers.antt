@@ -5,25 +5,6 @@ use Rattle.layout.specs.Table.{place_in, section_of, rows_of_group, table_rows}
 use Rattle.layout.proofs.Lying.{section_found, in_whole}
 use Rattle.layout.proofs.places.part_range.Goals as goal
 
-pub overflow_mul-start : goal.overflow_mul-start
-overflow_mul-start c =
-    let p = view c.args.plan.now in
-    let key = c.args.key in
-    let found = section_found p key c.in-Some.section (c.in-Some.ensures ∙ c.«of».ensures.owners key) in
-    let inside = c.«of».ensures.places.inside found.0 key ((plan_ranges c.args.plan.now).owner_owns found.0 key found.1) in
-    let place : c.place-start.result ≡ place_in (section_of p found.0) key = c.place-start.ensures ∙ ap (λ s. place_in s key) found.2 in
-    omega (arith, inside, place, c.table_rows.ensures.value, c.table_rows.ensures.few)
-
-pub overflow_add-result : goal.overflow_add-result
-overflow_add-result c =
-    let p = view c.args.plan.now in
-    let key = c.args.key in
-    let found = section_found p key c.in-Some.section (c.in-Some.ensures ∙ c.«of».ensures.owners key) in
-    let inside = c.«of».ensures.places.inside found.0 key ((plan_ranges c.args.plan.now).owner_owns found.0 key found.1) in
-    let place : c.place-start.result ≡ place_in (section_of p found.0) key = c.place-start.ensures ∙ ap (λ s. place_in s key) found.2 in
-    let rows : c.in-Some.section.rows ≡ rows_of_group p found.0 = ap (λ s. s.rows) found.2 in
-    omega (arith, inside, place, rows, c.table_rows.ensures.value, c.table_rows.ensures.few)
-
 pub returns : goal.returns
 returns c =
     let p = view c.args.plan.now in

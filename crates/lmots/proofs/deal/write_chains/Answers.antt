@@ -48,10 +48,3 @@ loop-j-preserved g c =
           j;
       old = λ i j h o. c.write_lanes-in-loop-j.ensures.old i j o (inl h) ∙ c.loop-j.invariant.old i j h o;
     }
-
-pub returns : goal.returns
-returns g c =
-    record {
-      new = λ l j h o z. c.loop-j.invariant.new l j h o (omega arith);
-      old = c.loop-j.invariant.old;
-    }

@@ -3,15 +3,11 @@ use Rattle.rows.specs.Bytes.{u16str, u32str, rows, row_at}
 use Rattle.rows.proofs.Rows.{row_of_chunks}
 use Rattle.sizes.specs.Sizes.{bits}
 use Rattle.lmots.specs.LmOts.{p, coef, chain, digit, one_time_key}
-use Rattle.lmots.proofs.Chains.{coef_below}
 use Rattle.lmots.proofs.Feeding.{fed_none, fed_more}
 use Rattle.lmots.proofs.keys.candidate_key.Goals as goal
 
 pub loop-i-init : goal.loop-i-init
 loop-i-init g c = fed_none g.H.Hash.first g.H.Hash.fed g.met.H.Hash.joined _ _ c.opened-key.ensures
-
-pub walk-end-requires : goal.walk-end-requires
-walk-end-requires g c = omega (arith, coef_below (bits c.args.width) c.with_checksum-digits.result c.loop-i.i)
 
 pub loop-i-preserved : goal.loop-i-preserved
 unfolding digit

@@ -3,7 +3,8 @@ use Rattle.std.proofs.lemmas.Bool.{cases_lt}
 use Rattle.sizes.specs.Sizes.{levels, bits}
 use Rattle.lmots.specs.LmOts.{public_key}
 use Rattle.lms.specs.Lms.{leaf_node}
-use Rattle.lms.proofs.Coding.{eights, few}
+use Rattle.sizes.proofs.Heights.{keys_most}
+use Rattle.lms.proofs.Coding.{eights}
 use Rattle.lms.proofs.Trees.{leaves_filled}
 use Rattle.lms.proofs.growing.fill_leaves.Goals as goal
 
@@ -25,18 +26,12 @@ more leaf P first key old new keys low before made eight kept q h =
           ap (λ n. get_or new n []) (sym e) ∙ eight k (omega arith) ∙ ap₂ leaf e (made k (omega arith) ∙ ap P (mod-eq_of_lt small ∙ d))
     ]
 
-pub fill_eight-requires : goal.fill_eight-requires
-fill_eight-requires g c =
-    let z = eights c.args.height in
-    let f = few c.args.height in
-    record { room = omega (arith, c.loop-key.invariant.whole); low = omega arith }
-
 pub loop-key-preserved : goal.loop-key-preserved
 loop-key-preserved g c =
     let a = c.args in
     let H = g.H.Hash.hashed in
     let z = eights a.height in
-    let f = few a.height in
+    let f = keys_most a.height in
     record {
       whole = omega (arith, c.loop-key.invariant.whole);
       there = more (leaf_node H a.origin.id.bytes) (public_key H a.origin.id.bytes a.origin.seed.bytes (bits a.width)) c.keys-first.result c.loop-key.key c.loop-key.nodes c.fill_eight.new.nodes c.public_keys-keys.result
@@ -60,7 +55,7 @@ returns-2 g c =
     let H = g.H.Hash.hashed in
     let P = public_key H a.origin.id.bytes a.origin.seed.bytes (bits a.width) in
     let e : c.keys-first.result ≡ 2 ^ levels a.height = c.keys-first.ensures in
-    let f = few a.height in
+    let f = keys_most a.height in
     leaves_filled H a.origin.id.bytes a.origin.seed.bytes (levels a.height) (bits a.width) c.fill_eight.new.nodes
     (λ q l.
     ap (λ n. get_or c.fill_eight.new.nodes (n + q) []) (sym e)

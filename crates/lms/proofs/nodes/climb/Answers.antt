@@ -1,4 +1,4 @@
-use Rattle.std.proofs.Common.{◌≡◌, ℕ, ◌/◌, [], length, get_or, refl, ap, ◌∙◌, arith}
+use Rattle.std.proofs.Common.{ℕ, ◌/◌, [], get_or, refl, ap, ◌∙◌, arith}
 use Rattle.lms.specs.Lms.{climbed}
 use Rattle.lms.proofs.Trees.{climb_odd, climb_even, halved_more}
 use Rattle.lms.proofs.nodes.climb.Goals as goal
@@ -23,9 +23,3 @@ loop-next-preserved g c =
       ],
       ap (λ n. n / 2) c.loop-next.invariant.1 ∙ halved_more a.r k,
     )
-
-pub returns : goal.returns
-returns g c =
-    let a = c.args in
-    let e : c.loop-next.next-index ≡ length a.path.now = omega arith in
-    c.loop-next.invariant.0 ∙ ap (climbed g.H.Hash.hashed a.id.bytes (λ k. get_or a.path.now k []) a.r a.bottom.now) e

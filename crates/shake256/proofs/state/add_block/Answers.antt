@@ -1,12 +1,9 @@
-use Rattle.std.proofs.Common.{◌/◌, ◌<◌, ◌≢◌, [], length, get_or, refl, ap, ◌∙◌, arith, get_or-set_other, get_or-set_same, rules, below_more}
+use Rattle.std.proofs.Common.{◌/◌, ◌<◌, ◌≢◌, [], length, get_or, ap, ◌∙◌, arith, get_or-set_other, get_or-set_same, rules, below_more}
 use lib.Bits.{bit_xor}
 use Rattle.hash.proofs.Chaining.{chunk_at}
 use Rattle.shake256.specs.Fips202.{word}
 use Rattle.shake256.proofs.Adding.{word_at, all_added}
 use Rattle.shake256.proofs.state.add_block.Goals as goal
-
-pub loop-t-init : goal.loop-t-init
-loop-t-init c = (search rules, (λ k h. absurd (omega arith)), λ k h. refl)
 
 pub loop-t-preserved : goal.loop-t-preserved
 loop-t-preserved c =

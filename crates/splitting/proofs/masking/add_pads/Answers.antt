@@ -1,19 +1,13 @@
 use Rattle.std.proofs.Common.{◌+◌, [], get_or, ap, ◌∙◌, arith}
 use Rattle.splitting.specs.KeyParts.{label_in}
-use Rattle.splitting.proofs.Blocks.{Added, none_added, eight_added}
+use Rattle.splitting.proofs.Blocks.{Added, eight_added}
 use Rattle.splitting.proofs.masking.add_pads.Goals as goal
-
-pub loop-first-init : goal.loop-first-init
-loop-first-init g c = none_added _ c.args.out.now c.args.out.now c.args.out.now
 
 pub loop-first-preserved : goal.loop-first-preserved
 loop-first-preserved g c =
     let pad = (g.P.Pads.source c.args.source.now).pad in
     eight_added _ c.args.out.now c.loop-first.out c.add_eight.new.out c.loop-first.first (λ k. get_or c.pads-pads.result k []) c.loop-first.auto.out c.loop-first.invariant
     (λ k l. c.pads-pads.ensures k l ∙ ap pad (c.labels.ensures k l)) c.add_eight.ensures.new c.add_eight.ensures.old
-
-pub returns : goal.returns
-returns g c = λ m room. c.loop-first.invariant.done m (omega arith) room
 
 pub returns-2 : goal.returns-2
 returns-2 g c = λ m room.

@@ -13,7 +13,7 @@ use Rattle.dealer.specs.Tabled.{tabled}
 use Rattle.plan.proofs.Found.{plan_ranges}
 use Rattle.layout.proofs.Lying.{places}
 use Rattle.dealer.proofs.Tabling.{tabling}
-use Rattle.dealer.proofs.Placing.{same_refusal, is_whole, put_in, put_back, is_tabled, both}
+use Rattle.dealer.proofs.Placing.{same_refusal, is_whole, put_in, put_back, is_tabled}
 use Rattle.dealer.proofs.dealers.Dealer.deal_part.Goals as goal
 
 pub returns-in_err-key_sheet : goal.returns-in_err-key_sheet
@@ -59,8 +59,3 @@ returns g c =
     }
 
 -- what the key sheet was not refused for, splitting is not either
-pub returns-in_err-split : goal.returns-in_err-split
-returns-in_err-split g c =
-    let p = view c.args.self.now.plan in
-    let sources = map g.P.Pads.source c.args.sources.now in
-    absurd (both p sources c.args.key _ c.key_sheet.new.out (sym c.key_sheet.auto.out) c.in_ok-key_sheet.ensures.answer c.in_err-split.ensures.answer.0)

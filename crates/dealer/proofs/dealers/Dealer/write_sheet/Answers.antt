@@ -1,10 +1,8 @@
-use Rattle.std.proofs.Common.{◌≡◌, ℕ, ◌+◌, ◌-◌, ◌*◌, ◌^◌, ◌++◌, map, length, sym, ap, ◌∙◌, arith, rules}
+use Rattle.std.proofs.Common.{◌≡◌, ℕ, ◌+◌, ◌-◌, ◌*◌, ◌++◌, map, length, ap, ◌∙◌, arith, rules}
 use borrow.Rule.Slice.PartMut.{put_mid}
 use Rattle.std.proofs.lemmas.Slice.{take-put_mid}
-use Rattle.std.proofs.lemmas.Bool.{eq-eqb}
-use Rattle.rows.specs.Bytes.{part, rows}
+use Rattle.rows.specs.Bytes.{rows}
 use Rattle.rows.specs.declared.origin.Origin.{Origin}
-use Rattle.rows.proofs.Rows.{length_part}
 use Rattle.sizes.specs.Sizes.{levels, bits}
 use Rattle.plan.specs.Members.{members}
 use Rattle.lms.specs.Grown.{tall, grown_path}
@@ -12,36 +10,11 @@ use Rattle.lms.specs.Scheme.{components, positions, prefix, path_row, all_compon
 use Rattle.lms.proofs.Joints.{put_behind}
 use Rattle.dealer.specs.Sheet.{check_rows}
 use Rattle.dealer.specs.Dealt.{i_of, seed_of}
-use Rattle.dealer.proofs.Laying.{four_parts, unrefused, done}
+use Rattle.dealer.proofs.Laying.{four_parts, done}
 use Rattle.dealer.proofs.dealers.Dealer.write_sheet.Goals as goal
 
 -- the path's rows fit
-pub unwrap-requires : goal.unwrap-requires
-unwrap-requires g c =
-    let d = c.args.self.now in
-    let a : ℕ = 32 + 32 * c.size.result in
-    let b : ℕ = a + 32 * c.levels.result in
-    let o₂ = put_mid 32 (a - 32) c.put.new.out c.write_checks.new.out in
-    let l₂ : length o₂ ≡ length c.args.out.now = search rules in
-    let lev : c.levels.result ≡ levels d.plan.height = c.levels.ensures ∙ ap levels c.height-height.ensures in
-    let room : length (part a (b - a) o₂) ≡ 32 * tall d.tree = length_part o₂ a (b - a) (omega (arith, l₂, c.requires.room, lev, c.size.ensures)) ∙ omega (arith, lev, ap levels d.tall) in
-    unrefused c.write_path.result (tall d.tree) _ _ c.write_path.ensures.answer (omega (arith, c.requires.small, ap (λ n. 2 ^ levels n) d.tall)) (eq-eqb _ _ room)
-
 -- and so do those of the components
-pub unwrap-requires-2 : goal.unwrap-requires-2
-unwrap-requires-2 g c =
-    let d = c.args.self.now in
-    let w = c.width-width.result in
-    let a : ℕ = 32 + 32 * c.size.result in
-    let b : ℕ = a + 32 * c.levels.result in
-    let o₂ = put_mid 32 (a - 32) c.put.new.out c.write_checks.new.out in
-    let o₃ = put_mid a (b - a) o₂ c.write_path.new.out in
-    let l₃ : length o₃ ≡ length c.args.out.now = search rules in
-    let lev : c.levels.result ≡ levels d.plan.height = c.levels.ensures ∙ ap levels c.height-height.ensures in
-    let many : components (bits d.plan.width) * positions (bits d.plan.width) ≡ components (bits w) * positions (bits w) = ap (λ v. components (bits v) * positions (bits v)) (sym c.width-width.ensures) in
-    let room : length (part b (length o₃ - b) o₃) ≡ 32 * (components (bits w) * positions (bits w)) = length_part o₃ b (length o₃ - b) (omega (arith, l₃, c.requires.room, lev, c.size.ensures)) ∙ omega (arith, l₃, c.requires.room, lev, c.size.ensures, many) in
-    unrefused c.write_components.result (levels c.height-height.result) _ _ c.write_components.ensures.answer (omega (arith, c.requires.small, ap (λ v. 2 ^ levels v) c.height-height.ensures)) (eq-eqb _ _ room)
-
 pub returns : goal.returns
 returns g c =
     let d = c.args.self.now in

@@ -1,6 +1,6 @@
-use Rattle.std.proofs.Common.{◌≡◌, ◌++◌, ap, ◌∙◌, arith}
+use Rattle.std.proofs.Common.{◌++◌, ap, ◌∙◌}
 use Rattle.rows.specs.Bytes.{u8str, u16str, u32str}
-use Rattle.lmots.specs.LmOts.{X, start}
+use Rattle.lmots.specs.LmOts.{start}
 use Rattle.lmots.specs.Lanes.{chain_at}
 use Rattle.lmots.proofs.Eight.{walk_none, walk_more}
 use Rattle.lmots.proofs.lanes.Lanes.rows_at.Goals as goal
@@ -20,10 +20,3 @@ loop-j-preserved g c l h =
     c.step-rows.ensures l h
     ∙ ap (λ t. H (s.id.bytes ++ u32str q ++ u16str i ++ u8str j ++ t)) (c.loop-j.invariant l h)
     ∙ walk_more H s.id.bytes q i (start H s.id.bytes c.args.seed.bytes q i) j
-
-pub returns : goal.returns
-returns g c l h =
-    let s = c.args.self.now in
-    let e : c.loop-j.j ≡ c.args.position = omega arith in
-    c.loop-j.invariant l h
-    ∙ ap (X g.H.Hash.hashed s.id.bytes c.args.seed.bytes (chain_at l s.chains).q (chain_at l s.chains).i) e

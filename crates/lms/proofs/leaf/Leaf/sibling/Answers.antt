@@ -9,15 +9,6 @@ use Rattle.lms.proofs.leaf.Leaf.sibling.Goals as goal
 at : (keys h q k : ℕ) → keys ≡ 2 ^ h → bit_xor ((keys + q) / 2 ^ k) 1 ≡ bit_xor ((2 ^ h + q) / 2 ^ k) 1
 at keys h q k e = ap (λ n. bit_xor ((n + q) / 2 ^ k) 1) e
 
-pub index-requires : goal.index-requires
-index-requires g c =
-    let t = c.tree.inside in
-    let h = levels t.height in
-    let tall = ap (λ t. levels t.height) c.tree.view_is in
-    let e = at c.keys.result h c.args.self.now.key c.args.level c.keys.ensures in
-    let i = sibling_inside h c.args.self.now.key c.args.level (rw tall c.args.self.now.there) (rw tall c.requires) in
-    omega (arith, t.nodes.ok.0, c.tree.invariant.room)
-
 pub returns : goal.returns
 returns g c =
     let t = c.tree.inside in

@@ -4,7 +4,7 @@ use Rattle.std.proofs.lemmas.Iterator.Search.{find_from_yields_List}
 use Rattle.std.proofs.lemmas.Iterator.Adapters.{option_map_id}
 use Rattle.plan.specs.Groups.{groups, owns_key}
 use Rattle.plan.specs.View.{view}
-use Rattle.plan.proofs.Found.{view_valid, plan_ranges}
+use Rattle.plan.proofs.Found.{plan_ranges}
 use Rattle.plan.proofs.Shares.{found_owner, ten_hold}
 use Rattle.plan.proofs.plans.Plan.owner.Goals as goal
 
@@ -14,9 +14,6 @@ returns-clause-value c =
     let road = YieldsList-from_first (λ g. g) (λ rest. rest) (groups p) c.iter.ensures in
     let all = find_from_yields_List (λ g. owns_key g c.args.key) _ _ c.find.result c.find.ensures.ran road (λ x b q k. search (rules, tests)) in
     sym (option_map_id c.find.result) ∙ all ∙ found_owner p 0 (length p.masks) c.args.key
-
-pub returns-clause-rules : goal.returns-clause-rules
-returns-clause-rules c = view_valid c.args.self.now
 
 pub returns-clause-ranges : goal.returns-clause-ranges
 returns-clause-ranges c = plan_ranges c.args.self.now

@@ -1,11 +1,8 @@
 use Rattle.std.proofs.Common.{◌≡◌, ◌+◌, sym, refl, ap, ◌∙◌, replicate, arith}
 use Rattle.std.proofs.lemmas.Result.{err_from_is_err_and}
 use Rattle.plan_sheet.specs.Checks.{line_fault, above_at, mask_at, n_of}
-use Rattle.plan_sheet.proofs.Lines.{lining_first, lining_stop, lining_next, lining_all, taken_length, kept_length, at_line}
+use Rattle.plan_sheet.proofs.Lines.{lining_stop, lining_next, lining_all, taken_length, kept_length, at_line}
 use Rattle.plan_sheet.proofs.cursor.Cursor.groups.Goals as goal
-
-pub loop-mask-init : goal.loop-mask-init
-loop-mask-init c = (refl, lining_first _ _ _ _ _ c.requires.place.0 (omega (arith, taken_length c.args.groups (replicate 70 0) c.requires.place.1.1)))
 
 pub group-requires : goal.group-requires
 group-requires c =

@@ -2,7 +2,7 @@ use Rattle.std.proofs.Common.{◌≡◌, ◌+◌, ◌-◌, ◌*◌, ◌<◌, ◌
 use borrow.Rule.Slice.PartMut.{put_mid}
 use Rattle.std.proofs.lemmas.Bool.{cond-false, ne_eqb}
 use Rattle.sizes.specs.Sizes.{levels}
-use Rattle.plan.proofs.Found.{keys_most}
+use Rattle.sizes.proofs.Heights.{keys_most}
 use Rattle.tape.specs.Lines.{lines, line_of, blanks}
 use Rattle.tape.proofs.Overwriting.{key_below, some_room, after_is, spends}
 use Rattle.tape.proofs.spending.TapeLedger.spend.Goals as goal
