@@ -7,8 +7,8 @@ use std::fmt;
 
 #[derive(Clone, Copy, PartialEq, Eq, Debug)]
 pub enum Height {
-    Five,
-    Ten,
+    Five = 5,
+    Ten = 10,
 }
 
 // A number that is no height.
@@ -45,19 +45,13 @@ impl Height {
     pub fn levels(self) -> usize
         ensures { result ≡ levels self }
     {
-        match self {
-            Height::Five => 5,
-            Height::Ten => 10,
-        }
+        self as usize
     }
 
     // How many leaves, and so one-time keys, the tree has.
     pub fn keys(self) -> u32
         ensures { result ≡ 2 ^ levels self }
     {
-        match self {
-            Height::Five => 32,
-            Height::Ten => 1024,
-        }
+        1 << self.levels()
     }
 }
