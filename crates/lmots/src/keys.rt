@@ -6,7 +6,7 @@ ghost use Rattle.lmots.specs.LmOts.{X, candidate_key, one_time_key, p, public_ke
 ghost use Rattle.lmots.specs.declared.refusal.Refusal.TheVariants.{Buffer};
 
 use crate::digits::{chain_count, digit_at, last_position, with_checksum};
-use crate::lanes::Lanes;
+use crate::lanes::{Chain, Lanes};
 use crate::opening::opened;
 use crate::refusal::Refusal;
 use crate::single::walk;
@@ -87,7 +87,8 @@ pub fn candidate_key<H: Hash>(
     let digits = with_checksum(width, digest);
     let mut key = opened::<H>(id, q, D_PBLK);
     for (i, y) in rows.as_chunks().0.iter().enumerate() {
-        let end = walk::<H>(id, q, i as u16, digit_at(width, &digits, i), top, y);
+        let chain = Chain { q, i: i as u16 };
+        let end = walk::<H>(id, chain, digit_at(width, &digits, i), top, y);
         key.feed(&end);
     }
     Ok(key.close())

@@ -4,6 +4,7 @@ ghost use Rattle.rows.specs.Bytes.{u8str, u16str, u32str};
 ghost use Rattle.lmots.specs.Lanes.{chain_at};
 ghost use Rattle.lmots.specs.LmOts.{X, start};
 
+use crate::single::START;
 use hash::Hash;
 use rows::{Identifier, Row, Seed, put};
 use std::array;
@@ -11,8 +12,8 @@ use std::array;
 // Chain i of key q.
 #[derive(Clone, Copy)]
 pub(crate) struct Chain {
-    q: u32,
-    i: u16,
+    pub(crate) q: u32,
+    pub(crate) i: u16,
 }
 
 // Which chain each lane holds; the hash has taken in the identifier.
@@ -99,7 +100,7 @@ impl<H: Hash> Lanes<H> {
         ensures { (l : ℕ) → l < 8 → slice_index_or result l [] ≡ start H.Hash.hashed self.now.id.bytes seed.bytes
             (chain_at l self.now.chains).q (chain_at l self.now.chains).i }
     {
-        self.step(0xff, &[seed.bytes(); 8])
+        self.step(START, &[seed.bytes(); 8])
     }
 
     // The rows at one position of the chains.

@@ -6,6 +6,7 @@ ghost use Rattle.lmots.specs.LmOts.{X, digit, p};
 ghost use Rattle.lmots.specs.declared.refusal.Refusal.TheVariants.{Buffer};
 
 use crate::digits::{chain_count, digit_at, with_checksum};
+use crate::lanes::Chain;
 use crate::refusal::Refusal;
 use crate::single::{chain_start, walk};
 use hash::Hash;
@@ -32,8 +33,9 @@ pub fn write_selected<H: Hash>(
     let digits = with_checksum(width, digest);
     // Rows are written by number, since a proof does not know what a slice holds after `chunks_exact_mut`.
     for i in 0..count {
-        let x = chain_start::<H>(origin, q, i as u16);
-        let y = walk::<H>(origin.id, q, i as u16, 0, digit_at(width, &digits, i), &x);
+        let chain = Chain { q, i: i as u16 };
+        let x = chain_start::<H>(origin, chain);
+        let y = walk::<H>(origin.id, chain, 0, digit_at(width, &digits, i), &x);
         put_row(out, i, &y);
     }
     Ok(())

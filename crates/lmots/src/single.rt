@@ -1,47 +1,57 @@
 // One row at a time: the steps of a chain, its start, and the digest of a message.
 ghost use Rattle.std.specs.Prelude.{◌≡◌, ◌-◌, ◌≤◌, ◌++◌, length};
 ghost use Rattle.rows.specs.Bytes.{u8str, u16str, u32str};
-ghost use Rattle.lmots.specs.LmOts.{chain, digest, prefix, start};
+ghost use Rattle.lmots.specs.LmOts.{chain as walked, digest, prefix, start};
 
+use crate::lanes::Chain;
 use crate::opening::opened;
 use hash::Hash;
 use rows::{Identifier, Origin, Row};
 
-// One step of chain i of key q.
-fn step<H: Hash>(id: Identifier, q: u32, i: u16, j: u8, x: &Row) -> Row
-    ensures { result ≡ H.Hash.hashed (id.bytes ++ u32str q ++ u16str i ++ u8str j ++ x.now) }
+// The byte that a chain's start has instead of a position.
+pub(crate) const START: u8 = 0xff;
+
+// The index that a key's prefix has instead of a chain's.
+const PREFIX: u16 = 0xfffd;
+
+// The mark in front of a message.
+const D_MESG: u16 = 0x8181;
+
+// One step of a chain.
+fn step<H: Hash>(id: Identifier, chain: Chain, j: u8, x: &Row) -> Row
+    ensures { result ≡ H.Hash.hashed (id.bytes ++ u32str chain.q ++ u16str chain.i ++ u8str j ++ x.now) }
 {
-    let mut h = opened::<H>(id, q, i);
+    let mut h = opened::<H>(id, chain.q, chain.i);
     h.feed(&[j]);
     h.feed(x);
     h.close()
 }
 
 // The steps of a chain from one position to another.
-pub(crate) fn walk<H: Hash>(id: Identifier, q: u32, i: u16, from: u8, to: u8, x: &Row) -> Row
+pub(crate) fn walk<H: Hash>(id: Identifier, chain: Chain, from: u8, to: u8, x: &Row) -> Row
     requires { from ≤ to }
-    ensures { result ≡ chain H.Hash.hashed id.bytes q i from (to - from) x.now }
+    ensures { result ≡ walked H.Hash.hashed id.bytes chain.q chain.i from (to - from) x.now }
 {
     (from..to).fold(
         *x,
         |y, j| -> Row
-            ensures { result ≡ H.Hash.hashed (id.bytes ++ u32str q ++ u16str i ++ u8str j ++ y) }
-        { step::<H>(id, q, i, j, &y) },
+            ensures { result ≡ H.Hash.hashed (id.bytes ++ u32str chain.q ++ u16str chain.i ++ u8str j ++ y) }
+        { step::<H>(id, chain, j, &y) },
     )
 }
 
 // The start of a chain.
-pub(crate) fn chain_start<H: Hash>(origin: Origin, q: u32, i: u16) -> Row
-    ensures { result ≡ start H.Hash.hashed origin.id.bytes origin.seed.bytes q i }
+pub(crate) fn chain_start<H: Hash>(origin: Origin, chain: Chain) -> Row
+    ensures { result ≡ start H.Hash.hashed origin.id.bytes origin.seed.bytes chain.q chain.i }
 {
-    step::<H>(origin.id, q, i, 0xff, &origin.seed.bytes())
+    step::<H>(origin.id, chain, START, &origin.seed.bytes())
 }
 
 // The prefix C of key q.
 pub fn prefix_of<H: Hash>(origin: Origin, q: u32) -> Row
     ensures { result ≡ prefix H.Hash.hashed origin.id.bytes origin.seed.bytes q }
 {
-    chain_start::<H>(origin, q, 0xfffd)
+    chain_start::<H>(origin, Chain { q, i: PREFIX })
 }
 
 // The digest of a message for key q, which is what is signed.
@@ -49,7 +59,7 @@ pub fn digest_of<H: Hash>(id: Identifier, q: u32, prefix: &Row, message: &[u8]) 
     ensures value { result ≡ digest H.Hash.hashed id.bytes q prefix.now message.now }
     ensures named { length id.bytes ≡ 16 }
 {
-    let mut h = opened::<H>(id, q, 0x8181);
+    let mut h = opened::<H>(id, q, D_MESG);
     h.feed(prefix);
     h.feed(message);
     h.close()

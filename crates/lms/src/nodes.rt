@@ -6,11 +6,16 @@ use hash::Hash;
 use lmots::opened;
 use rows::{Identifier, Row};
 
+// The marks in front of a leaf's key, and of the two nodes below a node.
+const D_LEAF: u16 = 0x8282;
+
+const D_INTR: u16 = 0x8383;
+
 // The node of a leaf, from its one-time public key.
 pub(crate) fn leaf<H: Hash>(id: Identifier, r: u32, key: &Row) -> Row
     ensures { result ≡ leaf_node H.Hash.hashed id.bytes r key.now }
 {
-    let mut h = opened::<H>(id, r, 0x8282);
+    let mut h = opened::<H>(id, r, D_LEAF);
     h.feed(key);
     h.close()
 }
@@ -19,7 +24,7 @@ pub(crate) fn leaf<H: Hash>(id: Identifier, r: u32, key: &Row) -> Row
 pub(crate) fn inner<H: Hash>(id: Identifier, r: u32, left: &Row, right: &Row) -> Row
     ensures { result ≡ inner_node H.Hash.hashed id.bytes r left.now right.now }
 {
-    let mut h = opened::<H>(id, r, 0x8383);
+    let mut h = opened::<H>(id, r, D_INTR);
     h.feed(left);
     h.feed(right);
     h.close()

@@ -8,6 +8,7 @@ ghost use Rattle.lms.specs.Lms.{accepts, accepts_as, candidate_root, signature_l
 
 use crate::codes::{height_of, width_of};
 use crate::nodes::{climb, leaf};
+use crate::signing::signature_length;
 use hash::Hash;
 use lmots::{candidate_key, chain_count, digest_of};
 use rows::{Identifier, Row, row_at};
@@ -80,7 +81,7 @@ fn verify_as<H: Hash>(root: &[u8], message: &[u8], sig: &[u8], height: Height, w
     ensures { result ≡ accepts_as H.Hash.hashed root.now message.now sig.now (levels height) (bits width) }
 {
     let end = 40 + 32 * chain_count(width);
-    if sig.len() != end + 4 + 32 * height.levels() {
+    if sig.len() != signature_length(height, width) {
         return false;
     }
     if !codes_agree(root, sig, end) {

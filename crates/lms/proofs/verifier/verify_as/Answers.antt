@@ -13,10 +13,10 @@ codes : (root s : List ℕ) (w n : ℕ) → n ≡ p w →
     ≡ (eqb (str_to_u32 (part 4 4 s)) (str_to_u32 (part 4 4 root)) && eqb (str_to_u32 (part (40 + 32 * p w) 4 s)) (str_to_u32 (part 0 4 root)))
 codes root s w n e = ap (λ k. eqb (str_to_u32 (part 4 4 s)) (str_to_u32 (part 4 4 root)) && eqb (str_to_u32 (part (40 + 32 * k) 4 s)) (str_to_u32 (part 0 4 root))) e
 
-pub returns-then-sig-end : goal.returns-then-sig-end
-returns-then-sig-end g c =
+pub returns-then-sig-signature_length : goal.returns-then-sig-signature_length
+returns-then-sig-signature_length g c =
     let a = c.args in
-    wrong_length g.H.Hash.hashed a.root.now a.message.now a.sig.now (levels a.height) (bits a.width) (λ e. c.if-sig-end.true (omega arith))
+    wrong_length g.H.Hash.hashed a.root.now a.message.now a.sig.now (levels a.height) (bits a.width) (λ e. c.if-sig-signature_length.true (omega arith))
 
 pub returns-then-not-codes_agree : goal.returns-then-not-codes_agree
 returns-then-not-codes_agree g c =
