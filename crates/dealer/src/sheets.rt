@@ -33,7 +33,7 @@ fn check_pad<P: Pads>(sources: &[P], trustee: u8, key: u32, prefix: &Row) -> Row
     }
 }
 
-// Writes the check row of each member over all of a buffer.
+// Writes the check row of each member over all of a buffer, by number, since a proof does not know what a slice holds after `chunks_exact_mut`.
 fn write_checks<P: Pads>(sources: &[P], group: &Group, key: u32, prefix: &Row, out: &mut [u8])
     requires { length out.old ≡ 32 * length (members group.now.mask) }
     ensures { out.new ≡ check_rows (map P.Pads.source sources.now) (members group.now.mask) key prefix.now }

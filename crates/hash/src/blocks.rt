@@ -126,6 +126,7 @@ fn take_blocks<'a, C: Chaining<N>, const N: usize>(chain: &mut C, bytes: &'a [u8
     rest
 }
 
+// As `rows` has it, which stands beside this crate and not below.
 fn put(block: &mut [u8], at: usize, bytes: &[u8])
     requires { at + length bytes.now ≤ length block.old }
     ensures { block.new ≡ written block.old at bytes.now }

@@ -1,4 +1,4 @@
-// Why a row is not given.
+// Why a row is not given. An enum of this crate's own, with exactly the cases that its calls can give.
 ghost use Rattle.std.specs.Prelude.{◌≡◌};
 ghost use Rattle.helper.specs.Refusals.{number_of};
 

@@ -1,4 +1,4 @@
-// Why a key is not spent.
+// Why a key is not spent. An enum of this crate's own, with exactly the cases that its calls can give.
 ghost use Rattle.std.specs.Prelude.{◌≡◌};
 ghost use Rattle.ledger.specs.Refusals.{number_of};
 

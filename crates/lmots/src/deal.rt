@@ -12,7 +12,7 @@ use hash::Hash;
 use rows::{Origin, Row, put_row};
 use sizes::Width;
 
-// Writes the lanes' rows at position j of the chains from `first` on, as far as there are chains.
+// Writes the lanes' rows at position j of the chains from `first` on, as far as there are chains. By number, since they lie apart.
 fn write_lanes(out: &mut [u8], width: Width, first: usize, j: usize, rows: &[Row; 8])
     requires room { length out.old ≡ 32 * (p (bits width) * 2 ^ bits width) }
     requires inside { j < 2 ^ bits width }

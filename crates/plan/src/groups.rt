@@ -30,6 +30,7 @@ impl<'a> Iterator for Groups<'a> {
 
     ghost remaining = { item_count (λ rest. rest) };
 
+    // It counts by hand, since the number is all that it is.
     fn next(&mut self) -> Option<Group> {
         let group = self.plan.group(self.number)?;
         self.number += 1;

@@ -1,4 +1,5 @@
-// What is wrong with a plan sheet, and where: lines and fields count from 1.
+// What is wrong with a plan sheet, and where: lines and fields count from 1. An enum of this crate's own, with exactly the cases that its
+// reader can give. Line and field are no struct of their own, since a case may have a line alone.
 ghost use Rattle.std.specs.Prelude.{◌≡◌, Some};
 ghost use Rattle.plan_sheet.specs.Refusals.{number_of, line_of, field_of, places};
 

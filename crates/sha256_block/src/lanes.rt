@@ -51,7 +51,8 @@ fn gather(blocks: &[[u8; 64]; 8], t: usize) -> u32x8
     u32x8::from_array(array::from_fn(|i| load(&blocks[i], t)))
 }
 
-// Room for the whole schedules, with the words of the blocks at their front: as for one block, but for where the words come from.
+// Room for the whole schedules, with the words of the blocks at their front: one function for one
+// block and for eight would take a closure for where a word comes from, and a clause on it longer than the loop.
 fn parse(blocks: &[[u8; 64]; 8]) -> [u32x8; 64]
     ensures { (t i : ℕ) → t < 16 → i < 8 → slice_index (slice_index_or result t []) i ≡ word (slice_index_or blocks.now i []) t }
 {

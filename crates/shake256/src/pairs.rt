@@ -51,7 +51,7 @@ fn end_two(lanes: &[u64; 25], p: &[u8; 136], q: &[u8; 136]) -> ([u8; 32], [u8; 3
 }
 
 // The digests of eight messages, from the state before their last blocks, of which only the last bit is missing.
-// The pairs are written out: a loop over them would have to join four pairs of digests into eight.
+// The pairs are written out: made by `from_fn` they would be four pairs, to be flattened and their number proved.
 pub(crate) fn end_eight(lanes: &[u64; 25], blocks: &[[u8; 136]; 8]) -> [[u8; 32]; 8]
     ensures { (i : ℕ) → i < 8 → slice_index_or result i [] ≡ squeezed (absorbed lanes.now (slice_set (slice_index_or blocks.now i []) 135 (bit_xor (slice_index (slice_index_or blocks.now i []) 135) 0x80))) }
 {

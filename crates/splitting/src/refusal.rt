@@ -1,4 +1,4 @@
-// Why a key is not split.
+// Why a key is not split. An enum of this crate's own, with exactly the cases that its calls can give.
 ghost use Rattle.std.specs.Prelude.{◌≡◌};
 ghost use Rattle.splitting.specs.Refusals.{number_of};
 

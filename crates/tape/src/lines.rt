@@ -5,7 +5,8 @@ ghost use Rattle.tape.specs.Lines.{lines, line_key, is_key, lists, blanks, all_u
 
 use crate::line::{is_unused, key_in};
 
-// The whole lines at the front of some bytes; what is left over at the end is no line.
+// The whole lines at the front of some bytes; what is left over at the end is no line. A line is told by a pattern of six bytes, which a rule
+// of the project asks for here, and not by `as_chunks`.
 #[derive(Drop)]
 pub(crate) struct Lines<'a>(pub(crate) &'a [u8]);
 

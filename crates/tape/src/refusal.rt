@@ -1,4 +1,4 @@
-// Why a tape is not opened.
+// Why a tape is not opened. An enum of this crate's own, with exactly the cases that its calls can give.
 ghost use Rattle.std.specs.Prelude.{◌≡◌};
 ghost use Rattle.tape.specs.Refusals.{number_of};
 

@@ -30,7 +30,7 @@ pub fn decode(heap: Global, text: &str) -> Result<Option<Vec<u8>>, AllocError>
 {
     let mut bytes = Vec::new(heap);
     let mut left = text.as_bytes();
-    // The pattern names both digits; chunks of two would be indexed, and tested for half a pair before.
+    // The pattern names both digits, and leaves a lone one to the test behind the loop.
     while let [high, low, rest @ ..] = left {
         let Some(byte) = pair(*high, *low) else {
             return Ok(None);

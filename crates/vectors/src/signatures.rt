@@ -9,6 +9,7 @@ use shake256::Hasher as Shake256;
 use sizes::{Height, Width};
 use vector_files::{Block, HashName, Suite, over_hash};
 
+// Width and height are read by a function each: one for both would take the type, the name and the text.
 pub(crate) fn width_of(block: &Block) -> anyhow::Result<Width> {
     Width::try_from(block.number("w")?)
         .ok()
@@ -51,6 +52,7 @@ fn grow(block: &Block) -> anyhow::Result<AnyTree> {
         id: Identifier::new(block.array("identifier")?),
         seed: Seed::new(block.array("seed")?),
     };
+    // A switch, since the two trees are of two types.
     Ok(match HashName::of(block)? {
         HashName::Sha256 => Left(Tree::grow(heap, height, width, origin)?),
         HashName::Shake256 => Right(Tree::grow(heap, height, width, origin)?),
