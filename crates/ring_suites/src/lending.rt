@@ -1,9 +1,9 @@
 // What a helper lends of a public table.
 use crate::setting::rows_of_key;
-use helper::{Helper, Table};
+use helper::{Helper, Refusal, Table};
 use plan::Plan;
 
-// Whether a table lends some rows of a key, as they stand one behind another in some bytes, and refuses the next with 19.
+// Whether a table lends some rows of a key, as they stand one behind another in some bytes, and refuses the next as one beyond them.
 fn lends_part(mut table: Table, key: u32, rows: &[u8]) -> bool {
     let count = rows.len() / 32;
     for (index, row) in rows.chunks_exact(32).enumerate() {
@@ -14,7 +14,7 @@ fn lends_part(mut table: Table, key: u32, rows: &[u8]) -> bool {
     }
     match table.read(key, count) {
         Ok(_) => false,
-        Err(refusal) => refusal.number() == 19 && table.number(key) == count,
+        Err(Refusal::Beyond) => table.number(key) == count,
     }
 }
 
