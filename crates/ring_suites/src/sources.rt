@@ -1,5 +1,5 @@
 // The trustees' pad sources.
-use anyhow::{Context, ensure};
+use anyhow::Context;
 use either::{Either, Left, Right};
 use hash::Hash;
 use pads::{Book, HmacPads};
@@ -14,11 +14,7 @@ pub(crate) fn hmac_sources<H: Hash>(
     heap: Global,
     keys: &[Row],
 ) -> Result<Vec<HmacPads<H>>, AllocError> {
-    let mut sources = Vec::new(heap);
-    for key in keys {
-        sources.push(HmacPads::new(key))?;
-    }
-    Ok(sources)
+    keys.iter().map(|key| HmacPads::new(key)).collect(heap)
 }
 
 // A source by HMAC, or a book.
@@ -31,10 +27,8 @@ fn source_of(heap: Global, plan: &Plan, word: &str) -> anyhow::Result<Source> {
         return Ok(Right(book));
     }
     let bytes = decode(heap, word)?.context("a pad key is not hexadecimal")?;
-    ensure!(bytes.len() == 32, "a pad key has not 32 bytes");
-    let mut key = [0u8; 32];
-    key.copy_from_slice(&bytes);
-    Ok(Left(HmacPads::new(&key)))
+    let key = bytes.as_array().context("a pad key has not 32 bytes")?;
+    Ok(Left(HmacPads::new(key)))
 }
 
 // The sources that a block names, however many.
