@@ -2,18 +2,17 @@
 //! Times go to standard error. To standard output goes a digest that depends on all that was computed.
 #![tactic(auto)]
 
-ghost use Rattle.std.specs.Prelude.{ℕ};
-
 use anyhow::anyhow;
 use hash::Hash;
 use hash::hmac::HmacKey;
-use measuring::per_second;
+use report::Report;
 use sha256::Hasher as Sha256;
 use shake256::Hasher as Shake256;
 use sizes::Height;
 use std::env;
 use std::time::Instant;
 
+mod report;
 mod trees;
 mod work;
 
@@ -51,62 +50,31 @@ fn read_sizes(rt: &HostRuntime) -> anyhow::Result<Option<Sizes>> {
     Ok(Some(sizes))
 }
 
-// How many a second, of `count` done since `start`.
-pub(crate) fn rate(rt: &HostRuntime, start: &Instant, count: u64) -> anyhow::Result<u64> {
-    Ok(per_second(count, start.elapsed(rt)?.as_micros()))
-}
-
-pub(crate) fn show(
-    rt: &HostRuntime,
-    name: &str,
-    measure: &str,
-    digest: &[u8; 32],
-) -> anyhow::Result<()> {
-    let text = hex::encode(rt.alloc(), digest)?;
-    println!(rt; "{name} {measure} {text}")?;
-    Ok(())
-}
-
-// Runs some work, which does a measure `count` times, and shows its digest.
-fn timed<F: FnOnce() -> [u8; 32]>(
-    rt: &HostRuntime,
-    name: &str,
-    measure: &str,
-    count: u64,
-    work: F,
-) -> anyhow::Result<()>
-    requires { F.IsAlwaysCallable work }
-{
-    let start = Instant::now(rt)?;
-    let digest = work();
-    let figure = rate(rt, &start, count)?;
-    eprintln!(rt; "{name} {measure} {figure}")?;
-    show(rt, name, measure, &digest)
-}
-
-fn measure_hash<H: Hash>(rt: &HostRuntime, name: &str, sizes: &Sizes) -> anyhow::Result<()> {
-    let start = Instant::now(rt)?;
+// One long message, and messages one by one and eight at once.
+fn measure_hash<H: Hash>(report: &Report, sizes: &Sizes) -> anyhow::Result<()> {
+    let start = Instant::now(report.rt)?;
     let digest = work::bulk::<H>(sizes.pieces);
-    let bytes = rate(rt, &start, sizes.pieces.saturating_mul(work::PIECE as u64))?;
-    eprintln!(rt; "{name} bulk_bytes {bytes}")?;
-    show(rt, name, "bulk", &digest)?;
+    let bytes = sizes.pieces.saturating_mul(work::PIECE as u64);
+    report.rate("bulk_bytes", &start, bytes)?;
+    report.digest("bulk", &digest)?;
     let (hashes, rounds) = (sizes.hashes, sizes.hashes / 8);
-    timed(rt, name, "single", hashes, || {
+    report.timed("single", hashes, || {
         work::singly(hashes, |message| hash::digest::<H>(message))
     })?;
     let start = H::start();
-    timed(rt, name, "eight", rounds * 8, || {
+    report.timed("eight", rounds * 8, || {
         work::by_eight::<H, _>(rounds, |messages| start.each(messages, 55))
     })
 }
 
-fn measure_hmac<H: Hash>(rt: &HostRuntime, name: &str, sizes: &Sizes) -> anyhow::Result<()> {
+// HMAC under one key: texts one by one and eight at once.
+fn measure_hmac<H: Hash>(report: &Report, sizes: &Sizes) -> anyhow::Result<()> {
     let key: HmacKey<H> = HmacKey::new(&[0xa5; 32]);
     let (hashes, rounds) = (sizes.hashes, sizes.hashes / 8);
-    timed(rt, name, "mac_single", hashes, || {
+    report.timed("mac_single", hashes, || {
         work::singly(hashes, |text| key.mac(text))
     })?;
-    timed(rt, name, "mac_eight", rounds * 8, || {
+    report.timed("mac_eight", rounds * 8, || {
         work::by_eight::<H, _>(rounds, |texts| key.mac_each(texts, 55))
     })
 }
@@ -116,10 +84,18 @@ fn main(rt: HostRuntime) -> anyhow::Result<()> {
         rt.print(USAGE)?;
         return Ok(());
     };
-    measure_hash::<Sha256>(&rt, "sha256", &sizes)?;
-    measure_hash::<Shake256>(&rt, "shake256", &sizes)?;
-    measure_hmac::<Sha256>(&rt, "sha256", &sizes)?;
-    measure_hmac::<Shake256>(&rt, "shake256", &sizes)?;
-    trees::measure::<Sha256>(&rt, "sha256", sizes.height)?;
-    trees::measure::<Shake256>(&rt, "shake256", sizes.height)
+    let sha256 = Report {
+        rt: &rt,
+        hash: "sha256",
+    };
+    let shake256 = Report {
+        rt: &rt,
+        hash: "shake256",
+    };
+    measure_hash::<Sha256>(&sha256, &sizes)?;
+    measure_hash::<Shake256>(&shake256, &sizes)?;
+    measure_hmac::<Sha256>(&sha256, &sizes)?;
+    measure_hmac::<Shake256>(&shake256, &sizes)?;
+    trees::measure::<Sha256>(&sha256, sizes.height)?;
+    trees::measure::<Shake256>(&shake256, sizes.height)
 }
