@@ -1,4 +1,4 @@
-// Shows a tape made, spent on, opened again and refused when damaged, and a mirror of a tape and a bitmap.
+// Shows a tape made, spent on, opened again and refused when damaged, a mirror of a tape and a bitmap, and a mirror over a mirror.
 #![tactic(auto)]
 
 use ledger::{Bitmap, Ledger, Mirror, next_free};
@@ -55,6 +55,26 @@ fn show_mirror(rt: &HostRuntime, bytes: &mut [u8]) -> io::Result<()> {
     Ok(())
 }
 
+// Two tapes and a bitmap in a pile of mirrors: a spend is on both tapes, and the shorter one's room is the pile's.
+fn show_pile(rt: &HostRuntime) -> io::Result<()> {
+    let (mut short, mut long) = ([0u8; 6], [0u8; 12]);
+    let mut pile = Mirror {
+        first: Mirror {
+            first: Tape::make(&mut short, Height::Five),
+            second: Bitmap::new(Height::Five),
+        },
+        second: Tape::make(&mut long, Height::Five),
+    };
+    println!(rt;
+        "a mirror over a mirror: a tape of one line and a bitmap, and a tape of two lines"
+    )?;
+    spend(rt, &mut pile, 4)?;
+    spend(rt, &mut pile, 5)?;
+    check(rt, &short)?;
+    check(rt, &long)?;
+    Ok(())
+}
+
 fn main(rt: HostRuntime) -> io::Result<()> {
     let mut bytes = [0u8; 18];
     show_tape(&rt, &mut bytes)?;
@@ -66,5 +86,5 @@ fn main(rt: HostRuntime) -> io::Result<()> {
     check(&rt, &bytes)?;
     let mut damaged = Tape::open(&mut bytes, Height::Five);
     spend(&rt, &mut damaged, 9)?;
-    Ok(())
+    show_pile(&rt)
 }
