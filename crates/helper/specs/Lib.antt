@@ -3,3 +3,4 @@ pub mod Holding
 pub mod Pairs
 pub mod Entries
 pub mod Tables
+pub mod Laws

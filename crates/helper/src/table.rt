@@ -6,6 +6,7 @@ ghost use Rattle.plan.specs.View.{view};
 ghost use Rattle.layout.specs.Table.{find, section_of};
 ghost use Rattle.helper.specs.Holding.{reading};
 ghost use Rattle.helper.specs.Tables.{whole, part_reading, of_table, of_plan};
+ghost use Rattle.helper.specs.Laws.{Lending};
 
 use crate::interface::Helper;
 use crate::part::Part;
@@ -27,6 +28,7 @@ impl<'a> Table<'a> {
         ensures bytes { result.bytes.now ≡ bytes.now }
         ensures owners { (key : ℕ) → find result.sections.all key ≡ option_map (section_of (view plan.now)) (owner (view plan.now) key) }
         ensures means { of_table result ≡ of_plan bytes.now (view plan.now) }
+        ensures laws { Lending (view plan.now) }
     {
         Table {
             bytes,

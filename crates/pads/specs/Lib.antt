@@ -1,3 +1,5 @@
 pub mod Labels
+pub mod Labelled
 pub mod Source
 pub mod Books
+pub mod Laws

@@ -8,7 +8,9 @@ ghost use Rattle.sha256.specs.View.{viewed};
 ghost use Rattle.lms.specs.Scheme.{components, positions};
 ghost use Rattle.pads.specs.Labels.{check_bytes};
 ghost use Rattle.pads.specs.Source.{mac_under};
-ghost use Rattle.pads.specs.Books.{rows_of_key, row_of, of_book};
+ghost use Rattle.pads.specs.Labelled.{row_of};
+ghost use Rattle.pads.specs.Books.{rows_of_key, of_book};
+ghost use Rattle.pads.specs.Laws.{Booking};
 
 use crate::hmac_pads::HmacPads;
 use crate::interface::Pads;
@@ -38,6 +40,7 @@ impl<'a> Book<'a> {
     ) -> Book<'a>
         ensures parts { (result.bytes.now ≡ bytes.now) × (result.first ≡ first) × (result.height ≡ height) × (result.width ≡ width) }
         ensures checks { (k : ℕ) (prefix : List ℕ) → mac_under viewed fed closed result.check.key (check_bytes k prefix) ≡ hmac_of standard 64 check.now (check_bytes k prefix) }
+        ensures laws { Booking }
     {
         Book {
             bytes,
@@ -58,7 +61,7 @@ impl<'a> Book<'a> {
 
     // Which of a key's rows a label has, if any.
     fn row_of(&self, label: &Label) -> Option<usize>
-        ensures { result ≡ row_of (levels self.now.height) (bits self.now.width) label.now }
+        ensures { result ≡ row_of 8 (levels self.now.height) (bits self.now.width) label.now }
     {
         let levels = self.height.levels();
         let components = scheme::components(self.width);
@@ -68,7 +71,7 @@ impl<'a> Book<'a> {
             (CHECK_ROW, i @ 0..8, 0) => Some(1 + i),
             (PATH, i, 0) if i < levels => Some(9 + i),
             (CHAIN, i, j) if i < components && j < positions => Some(
-                9 + levels + positions * i + j,
+                9 + levels + i * positions + j,
             ),
             _ => None,
         }

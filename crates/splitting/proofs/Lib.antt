@@ -1,5 +1,4 @@
 pub mod Blocks
 pub mod Listed
 pub mod Undone
-pub mod Placed
 pub mod Granted

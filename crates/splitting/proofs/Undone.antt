@@ -11,12 +11,12 @@ use Rattle.pads.specs.declared.label.Label.{Label}
 use Rattle.pads.specs.Source.{Source}
 use Rattle.splitting.specs.declared.refusal.Refusal.{Refusal}
 use Rattle.splitting.specs.declared.refusal.Refusal.TheVariants.{Sources, SameChecks, Buffer, NotHeld}
-use Rattle.splitting.specs.Labelled.{label_at}
+use Rattle.pads.specs.Labelled.{label_at}
 use Rattle.splitting.specs.Sources.{source_of, distinct, all_hold, padded}
 use Rattle.splitting.specs.Split.{unless, members_of, of_owner, part_long, refusal, split_rows, split_for, answer, split}
 use Rattle.splitting.specs.Laws.{Splitting}
 use Rattle.splitting.proofs.Listed.{length_padded}
-use Rattle.splitting.proofs.Placed.{there, back}
+use Rattle.pads.proofs.Booked.{labelling}
 
 -- ---- pads
 module _ (sources : List Source) (l : Label) where
@@ -120,6 +120,5 @@ splitting = record {
   off = λ sources ts l row. off sources l ts row;
   anywhere = λ sources ss us t l row. anywhere sources l ss us t row;
   rows_back = λ p sources key g sheet part e o n l. row_back p sources key sheet part e g o n l;
-  there = there;
-  back = back;
+  labels = labelling;
 }

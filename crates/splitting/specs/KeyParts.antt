@@ -3,7 +3,7 @@ use Rattle.std.specs.Prelude.{ℕ}
 use Rattle.sizes.specs.Sizes.{levels, bits}
 use Rattle.pads.specs.declared.label.Label.{Label}
 use Rattle.splitting.specs.declared.key_part.KeyPart.{KeyPart}
-use Rattle.splitting.specs.Labelled.{label_at}
+use Rattle.pads.specs.Labelled.{label_at}
 
 -- the label of row n
 abbrev pub label_in : KeyPart → ℕ → Label

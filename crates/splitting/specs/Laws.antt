@@ -3,11 +3,11 @@ use Rattle.std.specs.Prelude.{◌≡◌, ℕ, ◌<◌, List, ◌∷◌, ◌++◌
 use Rattle.rows.specs.Bytes.{row_at}
 use Rattle.plan.specs.Shape.{Shape}
 use Rattle.plan.specs.Keys.{owner}
-use Rattle.layout.specs.Part.{part_rows}
 use Rattle.layout.specs.Table.{rows_of_group}
 use Rattle.pads.specs.declared.label.Label.{Label}
 use Rattle.pads.specs.Source.{Source}
-use Rattle.splitting.specs.Labelled.{label_at, index_of}
+use Rattle.pads.specs.Labelled.{label_at}
+use Rattle.pads.specs.Laws.{Labelling}
 use Rattle.splitting.specs.Sources.{padded}
 use Rattle.splitting.specs.Split.{members_of, split}
 
@@ -21,5 +21,4 @@ pub record Splitting : Type 0 where
   pub rows_back : (p : Shape) (sources : List Source) (key g : ℕ) (sheet part : List ℕ) → split p sources key sheet ≡ Ok part → owner p key ≡ Some g →
       (n : ℕ) → n < rows_of_group p g → padded sources (members_of p g) (label_at (length (members_of p g)) p.height p.width key n) (row_at n part) ≡ row_at n sheet
   -- each row of a part has a label of its own, and each such label a row
-  pub there : (k h w key n : ℕ) → n < part_rows h w k → index_of k h w key (label_at k h w key n) ≡ Some n
-  pub back : (k h w key n : ℕ) (l : Label) → index_of k h w key l ≡ Some n → (n < part_rows h w k) × (label_at k h w key n ≡ l)
+  pub labels : Labelling

@@ -1,4 +1,3 @@
-pub mod Labelled
 pub mod KeyParts
 pub mod Sources
 pub mod Refusals

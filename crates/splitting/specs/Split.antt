@@ -8,7 +8,7 @@ use Rattle.layout.specs.Table.{rows_of_group}
 use Rattle.pads.specs.Source.{Source}
 use Rattle.splitting.specs.declared.refusal.Refusal.{Refusal}
 use Rattle.splitting.specs.declared.refusal.Refusal.TheVariants.{Sources, SameChecks, Undealt, Buffer, NotHeld}
-use Rattle.splitting.specs.Labelled.{label_at}
+use Rattle.pads.specs.Labelled.{label_at}
 use Rattle.splitting.specs.Sources.{distinct, all_hold, padded}
 
 -- a check that refuses, or what comes behind it

@@ -5,7 +5,7 @@ ghost use Rattle.plan.specs.Members.{members};
 ghost use Rattle.plan.specs.View.{view};
 ghost use Rattle.pads.specs.Source.{nothing};
 ghost use Rattle.lms.specs.Scheme.{positions};
-ghost use Rattle.splitting.specs.Labelled.{label_at, component_label};
+ghost use Rattle.pads.specs.Labelled.{label_at, component_label};
 ghost use Rattle.splitting.specs.KeyParts.{label_in};
 
 use crate::key_part::KeyPart;

@@ -7,7 +7,7 @@ use Rattle.plan.specs.Members.{members}
 use Rattle.plan.specs.View.{view}
 use Rattle.layout.specs.Table.{rows_of_group}
 use Rattle.layout.proofs.Few.{part_few}
-use Rattle.splitting.specs.Labelled.{label_at}
+use Rattle.pads.specs.Labelled.{label_at}
 use Rattle.splitting.specs.Sources.{padded}
 use Rattle.splitting.specs.Split.{members_of}
 use Rattle.splitting.proofs.Granted.{granted}

@@ -23,10 +23,10 @@ label_at k h w key n =
     cond (nat_lt n (1 + k + h)) (path_label key (n - (1 + k)))
     (component_label key ((n - (1 + k + h)) / positions w) ((n - (1 + k + h)) % positions w))))
 
--- and back: the row of a label, where the key's part has it
-abbrev pub index_of : ℕ → ℕ → ℕ → ℕ → Label → Option ℕ
-index_of k h w key l =
-    cond (l.key == key && (l.kind == 4 && (l.i == 0 && l.j == 0))) (Some 0) (
-    cond (l.key == key && (l.kind == 5 && (nat_lt l.i k && l.j == 0))) (Some (1 + l.i)) (
-    cond (l.key == key && (l.kind == 1 && (nat_lt l.i h && l.j == 0))) (Some (1 + k + l.i)) (
-    cond (l.key == key && (l.kind == 2 && (nat_lt l.i (components w) && nat_lt l.j (positions w)))) (Some (1 + k + h + (l.i * positions w + l.j))) None)))
+-- and back: the row of a label, where its key's part has it
+abbrev pub row_of : ℕ → ℕ → ℕ → Label → Option ℕ
+row_of k h w l =
+    cond (l.kind == 4 && (l.i == 0 && l.j == 0)) (Some 0) (
+    cond (l.kind == 5 && (nat_lt l.i k && l.j == 0)) (Some (1 + l.i)) (
+    cond (l.kind == 1 && (nat_lt l.i h && l.j == 0)) (Some (1 + k + l.i)) (
+    cond (l.kind == 2 && (nat_lt l.i (components w) && nat_lt l.j (positions w))) (Some (1 + k + h + l.i * positions w + l.j)) None)))

@@ -1,0 +1,56 @@
+-- The laws of books.
+use Rattle.std.proofs.Common.{◌≡◌, ℕ, ◌+◌, ◌-◌, ◌*◌, ◌/◌, ◌%◌, ◌^◌, ◌<◌, true, ltb, leb, List, length, sym, refl, ap, ◌∙◌, mul_comm, mul_assoc, arith}
+use Rattle.std.proofs.lemmas.Nat.{le-div}
+use Rattle.std.proofs.lemmas.Bool.{and_parts, and_from, cond_both, lt-ltb, ltb-true, leb-true, le-leb}
+use Rattle.rows.specs.Bytes.{row_at}
+use Rattle.lms.specs.Scheme.{positions}
+use Rattle.pads.specs.declared.label.Label.{Label}
+use Rattle.pads.specs.Labelled.{path_label, component_label, label_at}
+use Rattle.pads.specs.Books.{rows_of_key, book_holds, book_pad}
+use Rattle.pads.specs.Laws.{Labelling, Whole, Booking}
+use Rattle.pads.proofs.Placed.{there, back}
+use Rattle.pads.proofs.Places.{place_fits, held_row}
+
+-- every row's label is of the key
+key_of : (k h w key n : ℕ) → (label_at k h w key n).key ≡ key
+key_of k h w key n =
+    let is : Label → Type 0 = λ l. l.key ≡ key in
+    cond_both (ltb n 1) _ _ is (λ a. refl) (λ a.
+    cond_both (ltb n (1 + k)) _ _ is (λ b. refl) (λ b.
+    cond_both (ltb n (1 + k + h)) (path_label key (n - (1 + k))) (component_label key ((n - (1 + k + h)) / positions w) ((n - (1 + k + h)) % positions w)) is (λ c. refl) (λ c. refl)))
+
+module _ (h w first : ℕ) (bytes : List ℕ) (key : ℕ) where
+  abbrev R : ℕ
+  R = rows_of_key h w
+
+  whole : book_holds h w first bytes key ≡ true → Whole h w first bytes key
+  whole e =
+      let a = and_parts (leb first key) _ e in
+      let b = and_parts (ltb key (2 ^ h)) _ a.1 in
+      let i = ltb-true (key - first) (length bytes / (32 * R)) b.1 in
+      let fits = place_fits (length bytes) R (key - first) (R - 1) i (omega arith) in
+      record { from = leb-true first key a.0; below = ltb-true key (2 ^ h) b.0; rows = omega (arith, fits) }
+
+  held : Whole h w first bytes key → book_holds h w first bytes key ≡ true
+  held x =
+      let i = key - first in
+      let turned : (i + 1) * (32 * R) ≡ 32 * (R * (i + 1)) = mul_comm (i + 1) (32 * R) ∙ mul_assoc 32 R (i + 1) in
+      let l = le-div (i + 1) (length bytes) (32 * R) (omega arith) (omega (turned, x.rows, arith)) in
+      and_from (leb first key) _ (le-leb first key x.from) (and_from (ltb key (2 ^ h)) _ (lt-ltb key (2 ^ h) x.below) (lt-ltb i (length bytes / (32 * R)) (omega (arith, l))))
+
+  in_rows : (n : ℕ) → book_holds h w first bytes key ≡ true → n < R → row_at (R * (key - first) + n) bytes ≡ book_pad h w first bytes (label_at 8 h w key n)
+  in_rows n e l =
+      let label = label_at 8 h w key n in
+      let same = key_of 8 h w key n in
+      ap (λ k. row_at (R * (k - first) + n) bytes) (sym same)
+      ∙ held_row h w first bytes label n (ap (book_holds h w first bytes) same ∙ e) (sym (there 8 h w key n l))
+
+pub labelling : Labelling
+labelling = record { there = there; back = back }
+
+pub booking : Booking
+booking = record {
+  labels = labelling;
+  holds = λ h w first bytes key. (whole h w first bytes key, held h w first bytes key);
+  rows = λ h w first bytes key n e l. in_rows h w first bytes key n e l;
+}
