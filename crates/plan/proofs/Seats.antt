@@ -2,15 +2,14 @@
 use Rattle.std.proofs.Common.{◌≡◌, ℕ, zero, suc, ◌+◌, ◌-◌, ◌*◌, ◌/◌, ◌%◌, ◌^◌, ◌<◌, ◌≤◌, Bool, true, false, cond, ◌&&◌, eqb, leb, ◌⊎◌, List, [], ◌∷◌, length, get_or, Some, None, Option, MatchOption, slice_get, sym, refl, ap, ◌∙◌, inl, inr, ⊎_elim, arith}
 use lib.Bits.{bit_and}
 use lib.Count.{ones, count_trailing_zeros}
-use Rattle.std.specs.List.{range_with_len}
+use Rattle.std.specs.List.{range_with_len, list_all}
 use Rattle.std.specs.Option.{option_map}
 use Rattle.std.proofs.lemmas.Bool.{and_parts, and_left, and_right, cases_Bool, cases_lt, cond_both, cond-true, cond-false, eqb-true, eq-eqb, ne_eqb, lt-leb, leb-true, false≢true}
 use Rattle.std.proofs.lemmas.Nat.{and_mask, one_shl}
 use Rattle.std.proofs.lemmas.Option.{slice_get-get_or, slice_get_within, get_or_from_slice_get}
-use Rattle.plan.specs.Every.{every}
 use Rattle.plan.specs.Members.{members, members_from, has, place}
 use Rattle.plan.specs.Laws.{Seats}
-use Rattle.plan.proofs.Tested.{every_at}
+use Rattle.plan.proofs.Tested.{tested_at}
 
 -- ---- what is computed once over all masks
 abbrev same : Option ℕ → Option ℕ → Bool
@@ -30,15 +29,15 @@ abbrev pub seat : ℕ → ℕ → Option ℕ
 seat mask t = cond (has mask t) (Some (ones (mask % 2 ^ (t - 1)))) None
 
 abbrev well : ℕ → Bool
-well mask = eqb (ones mask) (length (members mask)) && every (λ t. same (place t (members mask)) (seat mask t)) (range_with_len 1 8)
+well mask = eqb (ones mask) (length (members mask)) && list_all (λ t. same (place t (members mask)) (seat mask t)) (range_with_len 1 8)
 
-all_well : every well (range_with_len 0 256) ≡ true
+all_well : list_all well (range_with_len 0 256) ≡ true
 unfolding members ones
 all_well = refl
 
 pub count_is : (mask : ℕ) → mask < 256 → ones mask ≡ length (members mask)
 count_is mask small =
-    eqb-true _ _ (and_parts (eqb (ones mask) (length (members mask))) _ (every_at well 0 256 all_well mask (omega arith) (omega arith))).0
+    eqb-true _ _ (and_parts (eqb (ones mask) (length (members mask))) _ (tested_at well 0 256 all_well mask (omega arith) (omega arith))).0
 
 -- nobody below the first trustee looked at, and nobody above the last, is a member
 outside : (k a mask t : ℕ) → (t < a) ⊎ (a + k ≤ t) → place t (members_from k a mask) ≡ None
@@ -54,7 +53,7 @@ outside (suc k) a mask t h =
 pub place_is : (mask t : ℕ) → mask < 256 → place t (members mask) ≡ seat mask t
 unfolding members
 place_is mask t small =
-    let rest = every_at (λ u. same (place u (members mask)) (seat mask u)) 1 8 (and_parts (eqb (ones mask) (length (members mask))) _ (every_at well 0 256 all_well mask (omega arith) (omega arith))).1 in
+    let rest = tested_at (λ u. same (place u (members mask)) (seat mask u)) 1 8 (and_parts (eqb (ones mask) (length (members mask))) _ (tested_at well 0 256 all_well mask (omega arith) (omega arith))).1 in
     let nobody : has mask t ≡ false → (t < 1) ⊎ (1 + 8 ≤ t) → place t (members mask) ≡ seat mask t = λ no out. outside 8 1 mask t out ∙ sym (cond-false (has mask t) _ None no) in
     ⊎_elim (λ (l : t < 1). nobody (and_left (leb 1 t) _ (lt-leb 1 t l)) (inl l))
     (λ (g : 1 ≤ t).
@@ -165,13 +164,13 @@ alike_is (x ∷ xs) (y ∷ ys) h =
 peels : ℕ → Bool
 peels mask = alike (members mask) ((count_trailing_zeros 8 mask + 1) ∷ members (bit_and mask (mask - 1)))
 
-all_peel : every peels (range_with_len 1 255) ≡ true
+all_peel : list_all peels (range_with_len 1 255) ≡ true
 unfolding alike peels members count_trailing_zeros
 all_peel = refl
 
 pub peeled : (mask : ℕ) → 1 ≤ mask → mask < 256 → members mask ≡ (count_trailing_zeros 8 mask + 1) ∷ members (bit_and mask (mask - 1))
 unfolding peels
-peeled mask low small = alike_is _ _ (every_at peels 1 255 all_peel mask low (omega arith))
+peeled mask low small = alike_is _ _ (tested_at peels 1 255 all_peel mask low (omega arith))
 
 pub nobody : members 0 ≡ []
 unfolding members

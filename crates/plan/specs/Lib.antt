@@ -1,4 +1,3 @@
-pub mod Every
 pub mod Shape
 pub mod Members
 pub mod Keys

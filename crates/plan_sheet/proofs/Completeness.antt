@@ -1,6 +1,6 @@
 -- The sheet of a plan has no fault, and says that plan.
 use Rattle.std.proofs.Common.{◌≡◌, ℕ, zero, suc, ◌+◌, ◌-◌, ◌*◌, ◌%◌, ◌^◌, ◌<◌, ◌≤◌, Bool, true, ◌&&◌, ◌||◌, eqb, ltb, leb, List, [], ◌∷◌, ◌++◌, map, length, get_or, drop, is_some, Some, None, unwrap_or, sym, refl, ap, ◌∙◌, subst, ⊎_elim, append_assoc, arith}
-use Rattle.std.specs.List.{flat_map, range_with_len}
+use Rattle.std.specs.List.{flat_map, range_with_len, list_all}
 use Rattle.std.proofs.lemmas.List.{drop_at, drop-drop, length-append, append-nil}
 use Rattle.std.proofs.lemmas.Bool.{eq-eqb, ne_eqb, le-leb, lt-ltb, leb-true, eqb-true, or_cases, or_right, and_from, and_parts, cond-false, cases_eq}
 use Rattle.plan_sheet.specs.declared.refusal.Refusal.TheVariants.{NoNumber, OutOfRange, Members, Groups}
@@ -11,13 +11,12 @@ use Rattle.plan_sheet.specs.Written.{written, heading, group_line}
 use Rattle.plan_sheet.specs.Entries.{orderly, mask_of}
 use Rattle.plan_sheet.specs.Checks.{first, check, fed, formed, field_at, worth, quantity_fault, entry_fault, entry_faults, entries, mask_at, above_at, line_fault, members_fault, heading_faults, groups_fault, line_count, fault_of, h_of, w_of, m_of}
 use Rattle.columns.specs.Number.{blank}
-use Rattle.plan.specs.Every.{every}
 use Rattle.plan_sheet.specs.Law.{plan_of, Complete}
 use Rattle.columns.proofs.Text.{number_right, length_right}
 use Rattle.plan_sheet.proofs.Cells.{cell}
 use Rattle.plan_sheet.proofs.Lines.{past_groups, above_next}
 use Rattle.plan_sheet.proofs.Tables.{spread, Spread, spreads, length_cell}
-use Rattle.plan_sheet.proofs.Places.{length_joined, part_at, fed_is, field_at_is, map_from, first_all, every_all}
+use Rattle.plan_sheet.proofs.Places.{length_joined, part_at, fed_is, field_at_is, map_from, first_all, all_tested}
 
 -- a number in its range is read without a fault
 pub quantity_reads : (range : ℕ → Bool) (l f v : ℕ) (bytes : List ℕ) → bytes ≡ right 6 v → v < 1000000000 → range v ≡ true → (quantity_fault range l f bytes ≡ None) × (worth bytes ≡ v)
@@ -130,9 +129,9 @@ module _ (n h w : ℕ) (ms : List ℕ) (v : Valid (shape n h w ms)) where
 
   is_formed : formed sheet ≡ true
   is_formed =
-      and_from (eqb (length sheet % 25) 0 && leb 50 (length sheet)) (every (fed sheet) (range_with_len 1 (line_count sheet)))
+      and_from (eqb (length sheet % 25) 0 && leb 50 (length sheet)) (list_all (fed sheet) (range_with_len 1 (line_count sheet)))
       (and_from (eqb (length sheet % 25) 0) (leb 50 (length sheet)) (eq-eqb (length sheet % 25) 0 (omega (arith, sheet_long))) (le-leb 50 (length sheet) (omega (arith, sheet_long, m_range.0))))
-      (every_all (fed sheet) 1 (line_count sheet) fed_each)
+      (all_tested (fed sheet) 1 (line_count sheet) fed_each)
 
   fits : groups_fault sheet ≡ None
   fits = ap (λ b. check b Groups) (and_from (eqb (m_of sheet + 1) (line_count sheet)) (leb (m_of sheet) (2 ^ h_of sheet)) (eq-eqb (m_of sheet + 1) (line_count sheet) (omega (arith, q4.1, count))) (le-leb (m_of sheet) (2 ^ h_of sheet) (omega (arith, q4.1, ap (λ k. 2 ^ k) q2.1, v.keys_for_all))))

@@ -6,7 +6,6 @@ use Rattle.std.specs.declared.slice.ChunksExact.{ChunksExact}
 use Rattle.std.proofs.lemmas.Iterator.{YieldsList}
 use Rattle.std.proofs.lemmas.Iterator.Splits.{YieldsList-from_shown_while}
 use Rattle.std.proofs.lemmas.List.{take_at, drop_at, drop-drop, length-append, get_or-take, get_or-drop}
-use Rattle.plan.specs.Every.{every}
 use Rattle.plan_sheet.specs.Checks.{fed}
 
 -- the first k lines
@@ -39,7 +38,7 @@ yields_lines it size =
         ∙ ap (λ x. line ∷ lines (length rest / 25) x) (drop_at line rest 25 l)
 
 -- each line has its line feed
-pub fed_lines : (s : List ℕ) (i k : ℕ) → list_all ends (lines k (drop (25 * i) s)) ≡ every (fed s) (range_with_len (i + 1) k)
+pub fed_lines : (s : List ℕ) (i k : ℕ) → list_all ends (lines k (drop (25 * i) s)) ≡ list_all (fed s) (range_with_len (i + 1) k)
 fed_lines s i zero = refl
 fed_lines s i (suc k) =
     let e : (i + 1) - 1 ≡ i = omega arith in
@@ -49,5 +48,5 @@ fed_lines s i (suc k) =
     ∙ ap (λ x. fed s (i + 1) && list_all ends (lines k x)) (drop-drop 25 (25 * i) s ∙ ap (λ j. drop j s) n)
     ∙ ap (λ b. fed s (i + 1) && b) (fed_lines s (i + 1) k)
 
-pub all_fed : (s : List ℕ) → list_all ends (lines (length s / 25) s) ≡ every (fed s) (range_with_len 1 (length s / 25))
+pub all_fed : (s : List ℕ) → list_all ends (lines (length s / 25) s) ≡ list_all (fed s) (range_with_len 1 (length s / 25))
 all_fed s = fed_lines s 0 (length s / 25)

@@ -11,7 +11,7 @@ use Rattle.plan_sheet.specs.Written.{group_line}
 use Rattle.plan_sheet.specs.Checks.{first, fed, field_at, worth, quantity_fault, entry_fault, entries, mask_at, line_fault, members_fault, heading_faults, line_count, fault_of, n_of, h_of, w_of, m_of}
 use Rattle.plan_sheet.proofs.Lines.{first_none}
 use Rattle.plan_sheet.proofs.Cells.{cell, Under, check_none, field_is, entries_written}
-use Rattle.plan.proofs.Tested.{every_at}
+use Rattle.plan.proofs.Tested.{tested_at}
 use Rattle.columns.proofs.Text.{number_is}
 use Rattle.plan_sheet.proofs.Fields.{place_next}
 
@@ -137,7 +137,7 @@ faultless s h =
     let ls = first_map (line_fault s) 2 (m_of s) [] (append_nil_first (map (line_fault s) (range_with_len 2 (m_of s))) ∙ ap (λ j. first (map (line_fault s) (range_with_len 2 j))) (sym k) ∙ c.1) in
     record {
       whole = omega arith;
-      feeds = every_at (fed s) 1 (line_count s) form.1;
+      feeds = tested_at (fed s) 1 (line_count s) form.1;
       n_in = f1.1;
       h_in = f2.1;
       w_in = f3.1;

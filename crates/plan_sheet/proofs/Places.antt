@@ -1,11 +1,10 @@
 -- Where the fields and lines of a joined text stand.
 use Rattle.std.proofs.Common.{◌≡◌, ℕ, zero, suc, ◌+◌, ◌-◌, ◌*◌, ◌<◌, ◌≤◌, Bool, true, List, [], ◌∷◌, ◌++◌, map, length, get_or, take, drop, None, Option, sym, refl, ap, ◌∙◌, append_assoc, mul-one, mul-add, arith}
-use Rattle.std.specs.List.{flat_map, range_with_len}
+use Rattle.std.specs.List.{flat_map, range_with_len, list_all}
 use Rattle.std.proofs.lemmas.List.{take_at, drop_at, drop-drop, get_or_at, get_or-drop, length-append}
 use Rattle.std.proofs.lemmas.Bool.{eq-eqb, and_from}
 use Rattle.plan_sheet.specs.declared.refusal.Refusal.{Refusal}
 use Rattle.plan_sheet.specs.Checks.{first, fed, field_at}
-use Rattle.plan.specs.Every.{every}
 
 pub times_suc : (w k : ℕ) → w * suc k ≡ w + w * k
 times_suc w k = let e : suc k ≡ 1 + k = omega arith in ap (λ j. w * j) e ∙ mul-add w 1 k ∙ ap (λ z. z + w * k) (mul-one w)
@@ -43,6 +42,6 @@ pub first_all : (F : ℕ → Option Refusal) (a k : ℕ) (os : List (Option Refu
 first_all F a zero os h = refl
 first_all F a (suc k) os h = ap (λ o. first (o ∷ (map F (range_with_len (a + 1) k) ++ os))) (h a (omega arith) (omega arith)) ∙ first_all F (a + 1) k os (λ g l u. h g (omega arith) (omega arith))
 
-pub every_all : (test : ℕ → Bool) (a k : ℕ) → ((g : ℕ) → a ≤ g → g < a + k → test g ≡ true) → every test (range_with_len a k) ≡ true
-every_all test a zero h = refl
-every_all test a (suc k) h = and_from _ _ (h a (omega arith) (omega arith)) (every_all test (a + 1) k (λ g l u. h g (omega arith) (omega arith)))
+pub all_tested : (test : ℕ → Bool) (a k : ℕ) → ((g : ℕ) → a ≤ g → g < a + k → test g ≡ true) → list_all test (range_with_len a k) ≡ true
+all_tested test a zero h = refl
+all_tested test a (suc k) h = and_from _ _ (h a (omega arith) (omega arith)) (all_tested test (a + 1) k (λ g l u. h g (omega arith) (omega arith)))

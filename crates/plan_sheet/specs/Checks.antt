@@ -3,9 +3,8 @@ use Rattle.std.specs.Prelude.{◌≡◌, ℕ, ◌+◌, ◌-◌, ◌*◌, ◌/◌
 use Rattle.std.specs.Option.{unwrap_or}
 use Rattle.plan_sheet.specs.declared.refusal.Refusal.{Refusal}
 use Rattle.plan_sheet.specs.declared.refusal.Refusal.TheVariants.{Layout, NoNumber, OutOfRange, Members, Groups}
-use Rattle.std.specs.List.{range_with_len}
+use Rattle.std.specs.List.{range_with_len, list_all}
 use Rattle.sizes.specs.Sizes.{is_height, is_width}
-use Rattle.plan.specs.Every.{every}
 use Rattle.plan.specs.Shape.{is_trustees, is_groups, Within, Rising}
 use Rattle.columns.specs.Number.{number, blank}
 use Rattle.plan_sheet.specs.Entries.{orderly, mask_of}
@@ -28,7 +27,7 @@ abbrev pub fed : List ℕ → ℕ → Bool
 fed s l = slice_index s (25 * (l - 1) + 24) == 10
 
 abbrev pub formed : List ℕ → Bool
-formed s = (length s % 25 == 0 && nat_le 50 (length s)) && every (fed s) (range_with_len 1 (line_count s))
+formed s = (length s % 25 == 0 && nat_le 50 (length s)) && list_all (fed s) (range_with_len 1 (line_count s))
 
 -- field f of line l in fields of some columns; line and field count from 1
 abbrev pub field_at : ℕ → List ℕ → ℕ → ℕ → List ℕ

@@ -1,8 +1,7 @@
 // The reader of a plan sheet.
 ghost use Rattle.std.specs.Prelude.{◌≡◌, ◌/◌, length, MatchResult, ◌≢◌};
-ghost use Rattle.std.specs.List.{range_with_len};
+ghost use Rattle.std.specs.List.{range_with_len, list_all};
 ghost use Rattle.std.specs.Result.{result_err};
-ghost use Rattle.plan.specs.Every.{every};
 ghost use Rattle.plan.specs.Shape.{Shape, Valid};
 ghost use Rattle.plan.specs.View.{view};
 ghost use Rattle.plan_sheet.specs.Checks.{fed, formed, fault_of};
@@ -44,7 +43,7 @@ fn formed(sheet: &[u8]) -> bool
 
 // Whether each line has its line feed.
 fn all_fed(sheet: &[u8]) -> bool
-    ensures { result ≡ every (fed sheet.now) (range_with_len 1 (length sheet.now / 25)) }
+    ensures { result ≡ list_all (fed sheet.now) (range_with_len 1 (length sheet.now / 25)) }
 {
     sheet.chunks_exact(25).all(|line| line[24] == b'\n')
 }
