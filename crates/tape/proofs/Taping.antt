@@ -4,12 +4,14 @@ use Rattle.std.specs.List.{flat_map, AllByRecursion as All}
 use Rattle.std.proofs.lemmas.List.{append-nil, length-append, take_at, get_or_at, replicate-append-replicate, nil_from_length, take_more, take_all, length-take-le, length-replicate}
 use Rattle.std.proofs.Math.Bool.{or-false}
 use Rattle.std.proofs.lemmas.Bool.{and_parts, and_from, cases_Bool, cond-true, cond-false, eq-eqb, eqb-true, ltb-true, lt-ltb, not-true, not_from_false, false≢true}
+use Rattle.sizes.specs.declared.height.Height.{Height}
 use Rattle.sizes.specs.Sizes.{levels}
 use Rattle.columns.specs.Number.{spaces, right, unpadded, number, blank}
 use Rattle.columns.proofs.Text.{padded, number_is, number_right, length_right}
 use Rattle.sizes.proofs.Heights.{keys_most}
 use Rattle.tape.specs.Lines.{lines, line_of, taped, line_key, unused, is_key, lists, blanks, all_unused, fresh_key, sound, spent_on, flat}
-use Rattle.tape.specs.Laws.{among, Distinct, TapesHold}
+use Rattle.tape.specs.Tapes.{accepted}
+use Rattle.tape.specs.Laws.{among, Distinct, Kept}
 
 -- ---- one line
 abbrev pub Small : ℕ → Type 0
@@ -202,16 +204,34 @@ spent_taped (k ∷ ks) room key a =
     let rest = taped_lines ks (suc room) in
     cond-false (unused (line_of k)) (line_of key ∷ rest) (line_of k ∷ spent_on rest key) (used_line k a.0) ∙ ap (λ t. line_of k ∷ t) (spent_taped ks room key a.1)
 
-pub tapes_hold : TapesHold
-tapes_hold = record {
-  exact = λ h bytes. (
-    (λ e. let r = ordered (2 ^ levels h) (keys_most h) (lines bytes) e in record { keys = r.keys; room = r.room; written = sym (flat_lines bytes) ∙ ap flat r.written ∙ flat_taped r.keys r.room; below = r.below; distinct = r.distinct }),
-    (λ k. let small = smaller (2 ^ levels h) (keys_most h) k.keys k.below in ap (λ xs. sound (2 ^ levels h) (lines xs)) k.written ∙ ap (sound (2 ^ levels h)) (lines_taped k.keys k.room small) ∙ sound_taped (2 ^ levels h) k.keys k.room (keys_most h) k.below small k.distinct),
-  );
-  says = λ h keys room k a. let small = smaller (2 ^ levels h) (keys_most h) keys a in ap (λ ls. leb (2 ^ levels h) k || lists ls k) (lines_taped keys room small) ∙ ap (λ b. leb (2 ^ levels h) k || b) (lists_taped keys room k small);
-  roomy = λ h keys room a. let small = smaller (2 ^ levels h) (keys_most h) keys a in ap blanks (lines_taped keys room small) ∙ blanks_taped keys room small;
-  grows = λ h keys room key a. let small = smaller (2 ^ levels h) (keys_most h) keys a in let e : room + 1 ≡ suc room = omega arith in ap (λ r. flat (spent_on (lines (taped keys r)) key)) e ∙ ap (λ ls. flat (spent_on ls key)) (lines_taped keys (suc room) small) ∙ ap flat (spent_taped keys room key small) ∙ flat_taped (keys ++ key ∷ []) room;
-}
+-- ---- tapes for a tree
+module _ (h : Height) where
+  pub small_keys : (keys : List ℕ) → All (λ k. k < 2 ^ levels h) keys → All Small keys
+  small_keys = smaller (2 ^ levels h) (keys_most h)
+
+  pub kept : (bytes : List ℕ) → accepted (levels h) bytes ≡ true → Kept h bytes
+  kept bytes e =
+      let r = ordered (2 ^ levels h) (keys_most h) (lines bytes) e in
+      record { keys = r.keys; room = r.room; written = sym (flat_lines bytes) ∙ ap flat r.written ∙ flat_taped r.keys r.room; below = r.below; distinct = r.distinct }
+
+  pub accepts : (bytes : List ℕ) → Kept h bytes → accepted (levels h) bytes ≡ true
+  accepts bytes k =
+      let small = small_keys k.keys k.below in
+      ap (λ xs. sound (2 ^ levels h) (lines xs)) k.written ∙ ap (sound (2 ^ levels h)) (lines_taped k.keys k.room small) ∙ sound_taped (2 ^ levels h) k.keys k.room (keys_most h) k.below small k.distinct
+
+  pub says : (keys : List ℕ) (room k : ℕ) → All (λ k. k < 2 ^ levels h) keys → (leb (2 ^ levels h) k || lists (lines (taped keys room)) k) ≡ (leb (2 ^ levels h) k || among keys k)
+  says keys room k a =
+      let small = small_keys keys a in
+      ap (λ ls. leb (2 ^ levels h) k || lists ls k) (lines_taped keys room small) ∙ ap (λ b. leb (2 ^ levels h) k || b) (lists_taped keys room k small)
+
+  pub roomy : (keys : List ℕ) (room : ℕ) → All (λ k. k < 2 ^ levels h) keys → blanks (lines (taped keys room)) ≡ room
+  roomy keys room a = let small = small_keys keys a in ap blanks (lines_taped keys room small) ∙ blanks_taped keys room small
+
+  pub grows : (keys : List ℕ) (room key : ℕ) → All (λ k. k < 2 ^ levels h) keys → flat (spent_on (lines (taped keys (room + 1))) key) ≡ taped (keys ++ key ∷ []) room
+  grows keys room key a =
+      let small = small_keys keys a in
+      let e : room + 1 ≡ suc room = omega arith in
+      ap (λ r. flat (spent_on (lines (taped keys r)) key)) e ∙ ap (λ ls. flat (spent_on ls key)) (lines_taped keys (suc room) small) ∙ ap flat (spent_taped keys room key small) ∙ flat_taped (keys ++ key ∷ []) room
 
 -- spaces list nothing
 pub spaces_free : (n h k : ℕ) (intact : Bool) (bytes : List ℕ) → eqb (n % 6) 0 ≡ true → intact ≡ true → bytes ≡ spaces n → (not intact || (leb (2 ^ h) k || lists (lines bytes) k)) ≡ leb (2 ^ h) k

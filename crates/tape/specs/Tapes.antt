@@ -14,6 +14,7 @@ of_tape intact h bytes = record {
   room = cond intact (blanks (lines bytes)) 0;
 }
 
+-- a tape as a ledger
 abbrev pub standing_of : Tape → Standing
 standing_of t = of_tape t.intact (levels t.height) t.bytes.now
 
@@ -21,6 +22,7 @@ standing_of t = of_tape t.intact (levels t.height) t.bytes.now
 abbrev pub accepted : ℕ → List ℕ → Bool
 accepted h bytes = sound (2 ^ h) (lines bytes)
 
+-- what the check answers
 abbrev pub tape_fault : ℕ → List ℕ → Option Refusal
 tape_fault h bytes = cond (accepted h bytes) None (Some Damaged)
 
@@ -28,5 +30,6 @@ tape_fault h bytes = cond (accepted h bytes) None (Some Damaged)
 abbrev pub whole_lines : List ℕ → Bool
 whole_lines bytes = length bytes % 6 == 0
 
+-- and what it answers of bytes for a new tape
 abbrev pub new_fault : List ℕ → Option Refusal
 new_fault bytes = cond (whole_lines bytes) None (Some Damaged)

@@ -5,8 +5,8 @@ ghost use Rattle.tape.specs.Lines.{lines, line_key, is_key, lists, blanks, all_u
 
 use crate::line::{is_unused, key_in};
 
-// The whole lines at the front of some bytes; what is left over at the end is no line. A line is told by a pattern of six bytes, which a rule
-// of the project asks for here, and not by `as_chunks`.
+// The whole lines at the front of some bytes; what is left over at the end is no line. A line is told by a pattern that names six bytes
+// and the rest: what is left over at the end needs no test of its own.
 #[derive(Drop)]
 pub(crate) struct Lines<'a>(pub(crate) &'a [u8]);
 

@@ -49,6 +49,7 @@ impl<'a> Tape<'a> {
         ensures bytes { result.bytes.now ≡ bytes.old }
         ensures height { result.height ≡ height }
         ensures intact { result.intact ≡ accepted (levels height) bytes.old }
+        ensures lender { result.bytes.ghost_name ≡ bytes.entry.ghost_name }
     {
         let intact = Tape::check(bytes, height).is_ok();
         Tape {
@@ -63,6 +64,7 @@ impl<'a> Tape<'a> {
         ensures bytes { result.bytes.now ≡ (if whole_lines bytes.old then spaces (length bytes.old) else bytes.old) }
         ensures height { result.height ≡ height }
         ensures intact { result.intact ≡ whole_lines bytes.old }
+        ensures lender { result.bytes.ghost_name ≡ bytes.entry.ghost_name }
         ensures fresh { whole_lines bytes.old ≡ true → Fresh (levels height) (standing_of result) }
     {
         let intact = Tape::check_new(bytes).is_ok();

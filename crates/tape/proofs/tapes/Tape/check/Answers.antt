@@ -9,7 +9,8 @@ use Rattle.tape.specs.declared.refusal.Refusal.{Refusal}
 use Rattle.tape.specs.declared.refusal.Refusal.TheVariants.{Damaged}
 use Rattle.tape.specs.Lines.{lines, sound}
 use Rattle.tape.specs.Tapes.{accepted, whole_lines, tape_fault, new_fault}
-use Rattle.tape.proofs.Taping.{tapes_hold, whole}
+use Rattle.tape.proofs.Reopened.{tapes_hold}
+use Rattle.tape.proofs.Taping.{whole}
 use Rattle.tape.proofs.tapes.Tape.check.Goals as goal
 
 -- bytes that are refused for a new tape are refused for any

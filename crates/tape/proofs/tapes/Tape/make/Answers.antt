@@ -15,5 +15,6 @@ returns c =
       bytes = bytes;
       height = refl;
       intact = intact;
+      lender = search rules;
       fresh = λ w k. spaces_free (length was) (levels c.args.height) k c.is_ok-intact.result c.if-intact.bytes w (intact ∙ w) (bytes ∙ cond-true (whole_lines was) (spaces (length was)) was w);
     }
