@@ -1,8 +1,10 @@
 // A ledger of 1,024 bits, one a key of the taller tree, in an array, so that no memory is asked for.
 ghost use Rattle.std.specs.Prelude.{◌≡◌};
+ghost use Rattle.std.specs.Result.{result_err};
 ghost use Rattle.sizes.specs.Sizes.{levels};
 ghost use Rattle.ledger.specs.Marks.{of_marks};
 ghost use Rattle.ledger.specs.Standing.{Fresh};
+ghost use Rattle.ledger.specs.Spend.{spend_refusal, Altered};
 
 use crate::interface::Ledger;
 use crate::refusal::Refusal;
@@ -38,7 +40,12 @@ impl Ledger for Bitmap {
         self.height.keys() as usize
     }
 
-    fn spend(&mut self, key: u32) -> Result<(), Refusal> {
+    // The interface's clauses, and that it stays a ledger for the same tree.
+    fn spend(&mut self, key: u32) -> Result<(), Refusal>
+        ensures answer { result_err result ≡ spend_refusal (of_marks self.old.marks (levels self.old.height)) key }
+        ensures after { Altered (of_marks self.old.marks (levels self.old.height)) key (of_marks self.new.marks (levels self.new.height)) result }
+        ensures height { self.new.height ≡ self.old.height }
+    {
         if self.spent(key) {
             return Err(Refusal::Spent);
         }
