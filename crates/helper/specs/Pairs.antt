@@ -10,5 +10,6 @@ paired a b = record {
   row = λ key index. cond (nat_lt 0 (a.number key)) (a.row key index) (b.row key index);
 }
 
+-- a pair as a helper
 abbrev pub of_pair : {A B : Type 0} → (A → Holding) → (B → Holding) → Pair A B → Holding
 of_pair f g p = paired (f p.first) (g p.second)

@@ -29,6 +29,7 @@ abbrev pub row_in : List ℕ → ℕ → ℕ → Option Section → List ℕ
 row_in bytes key index None = []
 row_in bytes key index (Some s) = row_at (place_in s key + index) bytes
 
+-- bytes as a helper, given each key's section
 abbrev pub laid_out : List ℕ → (ℕ → Option Section) → Holding
 laid_out bytes section = record { number = λ key. number_in bytes key (section key); row = λ key index. row_in bytes key index (section key) }
 

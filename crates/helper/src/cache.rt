@@ -7,7 +7,7 @@ use crate::interface::Helper;
 use crate::refusal::Refusal;
 use rows::Row;
 
-// The rows that were read last, over all keys together, sixteen of them, in an array, so that no memory is asked for. `next` is the place for
+// The sixteen rows that were last read below, over all keys together, in an array, so that no memory is asked for. `next` is the place for
 // another, counted round and round.
 #[derive(Drop)]
 pub struct Cache<H: Helper> {

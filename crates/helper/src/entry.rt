@@ -6,10 +6,10 @@ use rows::Row;
 
 // A row with the key and the index that it was read at.
 #[derive(Clone, Copy)]
-pub struct Entry {
-    pub key: u32,
-    pub index: usize,
-    pub row: Row,
+pub(crate) struct Entry {
+    pub(crate) key: u32,
+    pub(crate) index: usize,
+    pub(crate) row: Row,
 }
 
 impl Entry {
@@ -21,7 +21,7 @@ impl Entry {
 }
 
 // The row of the first entry of that key and index.
-pub fn look_up(entries: &[Option<Entry>], key: u32, index: usize) -> Option<Row>
+pub(crate) fn look_up(entries: &[Option<Entry>], key: u32, index: usize) -> Option<Row>
     ensures { result ≡ lookup entries.now key index }
 {
     let entry = entries

@@ -26,10 +26,11 @@ impl<A: Helper, B: Helper> Helper for Pair<A, B> {
         }
     }
 
-    // The interface's clauses, and that the half which is not asked stays as it is.
+    // The interface's clauses, that both halves hold what they held, and that the one which is not asked stays as it is.
     fn read(&mut self, key: u32, index: usize) -> Result<Row, Refusal>
         ensures answer { result ≡ reading (of_pair A.Helper.held B.Helper.held self.old) key index }
         ensures after { of_pair A.Helper.held B.Helper.held self.new ≡ of_pair A.Helper.held B.Helper.held self.old }
+        ensures halves { (A.Helper.held self.new.first ≡ A.Helper.held self.old.first) × (B.Helper.held self.new.second ≡ B.Helper.held self.old.second) }
         ensures first { (A.Helper.held self.old.first).number key ≡ 0 → self.new.first ≡ self.old.first }
         ensures second { 0 < (A.Helper.held self.old.first).number key → self.new.second ≡ self.old.second }
     {

@@ -5,16 +5,16 @@ ghost use Rattle.helper.specs.Tables.{whole, part_reading};
 use crate::refusal::Refusal;
 use rows::{Row, row_at};
 
-// A part has `rows` rows, which stand in front of `bytes` as far as these reach.
+// A part has `rows` rows, which stand at the front of `bytes` as far as these reach.
 #[derive(Clone, Copy)]
-pub struct Part<'a> {
+pub(crate) struct Part<'a> {
     bytes: &'a [u8],
     rows: usize,
 }
 
 impl<'a> Part<'a> {
     // The part that begins at a place of some bytes, which may end before it.
-    pub fn new(bytes: &'a [u8], start: usize, rows: usize) -> Part<'a>
+    pub(crate) fn new(bytes: &'a [u8], start: usize, rows: usize) -> Part<'a>
         ensures bytes { result.bytes.now ≡ drop start bytes.now }
         ensures rows { result.rows ≡ rows }
     {
@@ -25,14 +25,14 @@ impl<'a> Part<'a> {
     }
 
     // How many of its rows are there whole.
-    pub fn number(&self) -> usize
+    pub(crate) fn number(&self) -> usize
         ensures { result ≡ whole self.now.rows self.now.bytes.now }
     {
         self.rows.min(self.bytes.len() / 32)
     }
 
     // One of these.
-    pub fn row(&self, index: usize) -> Result<Row, Refusal>
+    pub(crate) fn row(&self, index: usize) -> Result<Row, Refusal>
         ensures { result ≡ part_reading self.now.rows self.now.bytes.now index }
     {
         if index >= self.number() {
