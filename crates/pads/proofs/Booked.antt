@@ -1,14 +1,15 @@
 -- The laws of books.
-use Rattle.std.proofs.Common.{◌≡◌, ℕ, ◌+◌, ◌-◌, ◌*◌, ◌/◌, ◌%◌, ◌^◌, ◌<◌, true, ltb, leb, List, length, sym, refl, ap, ◌∙◌, mul_comm, mul_assoc, arith}
+use Rattle.std.proofs.Common.{◌≡◌, ℕ, ◌+◌, ◌-◌, ◌*◌, ◌/◌, ◌%◌, ◌^◌, ◌<◌, Bool, true, false, cond, ltb, leb, List, length, replicate, None, Option, sym, refl, ap, ◌∙◌, mul_comm, mul_assoc, arith}
 use Rattle.std.proofs.lemmas.Nat.{le-div}
-use Rattle.std.proofs.lemmas.Bool.{and_parts, and_from, cond_both, lt-ltb, ltb-true, leb-true, le-leb}
+use Rattle.std.proofs.lemmas.Bool.{and_parts, and_from, cond_both, lt-ltb, cond-false, ltb-true, leb-true, le-leb}
 use Rattle.rows.specs.Bytes.{row_at}
 use Rattle.lms.specs.Scheme.{positions}
 use Rattle.pads.specs.declared.label.Label.{Label}
-use Rattle.pads.specs.Labelled.{path_label, component_label, label_at}
-use Rattle.pads.specs.Books.{rows_of_key, book_holds, book_pad}
+use Rattle.pads.specs.Labelled.{path_label, chain_label, label_at, row_of}
+use Rattle.pads.specs.Books.{rows_of_key, book_holds, row_at_place, book_pad}
 use Rattle.pads.specs.Laws.{Labelling, Whole, Booking}
 use Rattle.pads.proofs.Placed.{there, back}
+use Rattle.pads.proofs.Rising.{rising}
 use Rattle.pads.proofs.Places.{place_fits, held_row}
 
 -- every row's label is of the key
@@ -17,7 +18,7 @@ key_of k h w key n =
     let is : Label → Type 0 = λ l. l.key ≡ key in
     cond_both (ltb n 1) _ _ is (λ a. refl) (λ a.
     cond_both (ltb n (1 + k)) _ _ is (λ b. refl) (λ b.
-    cond_both (ltb n (1 + k + h)) (path_label key (n - (1 + k))) (component_label key ((n - (1 + k + h)) / positions w) ((n - (1 + k + h)) % positions w)) is (λ c. refl) (λ c. refl)))
+    cond_both (ltb n (1 + k + h)) (path_label key (n - (1 + k))) (chain_label key ((n - (1 + k + h)) / positions w) ((n - (1 + k + h)) % positions w)) is (λ c. refl) (λ c. refl)))
 
 module _ (h w first : ℕ) (bytes : List ℕ) (key : ℕ) where
   abbrev R : ℕ
@@ -45,12 +46,23 @@ module _ (h w first : ℕ) (bytes : List ℕ) (key : ℕ) where
       ap (λ k. row_at (R * (k - first) + n) bytes) (sym same)
       ∙ held_row h w first bytes label n (ap (book_holds h w first bytes) same ∙ e) (sym (there 8 h w key n l))
 
+-- without a row, zeros either way
+others : (held : Bool) (bytes : List ℕ) (start : ℕ) (row : Option ℕ) → row ≡ None → cond held (row_at_place bytes start row) (replicate 32 0) ≡ replicate 32 0
+others true bytes start row e = ap (row_at_place bytes start) e
+others false bytes start row e = refl
+
 pub labelling : Labelling
-labelling = record { there = there; back = back }
+labelling = record {
+  there = there;
+  back = back;
+  rising = λ k h w key n m l in-part. rising k h w key n m l;
+}
 
 pub booking : Booking
 booking = record {
   labels = labelling;
   holds = λ h w first bytes key. (whole h w first bytes key, held h w first bytes key);
   rows = λ h w first bytes key n e l. in_rows h w first bytes key n e l;
+  cut = λ h w first bytes l e. cond-false (book_holds h w first bytes l.key) _ (replicate 32 0) e;
+  others = λ h w first bytes l e. others (book_holds h w first bytes l.key) bytes (rows_of_key h w * (l.key - first)) (row_of 8 h w l) e;
 }

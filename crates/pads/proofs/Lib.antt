@@ -1,3 +1,4 @@
 pub mod Booked
 pub mod Placed
+pub mod Rising
 pub mod Places

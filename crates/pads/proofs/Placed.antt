@@ -5,9 +5,9 @@ use Rattle.std.proofs.lemmas.Bool.{and_parts, and_from, cases_lt, cond-true, con
 use Rattle.lms.specs.Scheme.{components, positions}
 use Rattle.layout.specs.Part.{part_rows}
 use Rattle.pads.specs.declared.label.Label.{Label}
-use Rattle.pads.specs.Labelled.{check_label, path_label, component_label, label_at, row_of}
+use Rattle.pads.specs.Labelled.{check_row_label, path_label, chain_label, label_at, row_of}
 
-positive : (w : ℕ) → 0 < 2 ^ w
+pub positive : (w : ℕ) → 0 < 2 ^ w
 positive w = pow_pos w
 
 module _ (k h w key : ℕ) where
@@ -18,33 +18,33 @@ module _ (k h w key : ℕ) where
   P = positions w
 
   -- ---- the label at each place
-  at_check : (i : ℕ) → i < k → label_at k h w key (1 + i) ≡ check_label key i
+  pub at_check : (i : ℕ) → i < k → label_at k h w key (1 + i) ≡ check_row_label key i
   at_check i l =
       let e : (1 + i) - 1 ≡ i = omega arith in
-      cond-false (ltb (1 + i) 1) _ _ (le-ltb _ _ (omega arith)) ∙ cond-true (ltb (1 + i) (1 + k)) _ _ (lt-ltb _ _ (omega arith)) ∙ ap (check_label key) e
+      cond-false (ltb (1 + i) 1) _ _ (le-ltb _ _ (omega arith)) ∙ cond-true (ltb (1 + i) (1 + k)) _ _ (lt-ltb _ _ (omega arith)) ∙ ap (check_row_label key) e
 
-  at_path : (i : ℕ) → i < h → label_at k h w key (1 + k + i) ≡ path_label key i
+  pub at_path : (i : ℕ) → i < h → label_at k h w key (1 + k + i) ≡ path_label key i
   at_path i l =
       let e : (1 + k + i) - (1 + k) ≡ i = omega arith in
       cond-false (ltb (1 + k + i) 1) _ _ (le-ltb _ _ (omega arith)) ∙ cond-false (ltb (1 + k + i) (1 + k)) _ _ (le-ltb _ _ (omega arith))
       ∙ cond-true (ltb (1 + k + i) (1 + k + h)) _ _ (lt-ltb _ _ (omega arith)) ∙ ap (path_label key) e
 
-  at_component : (i j : ℕ) → j < P → label_at k h w key (1 + k + h + i * P + j) ≡ component_label key i j
+  pub at_component : (i j : ℕ) → j < P → label_at k h w key (1 + k + h + i * P + j) ≡ chain_label key i j
   at_component i j l =
       let n = 1 + k + h + i * P + j in
       let e : n - (1 + k + h) ≡ i * P + j = omega arith in
       cond-false (ltb n 1) _ _ (le-ltb _ _ (omega arith)) ∙ cond-false (ltb n (1 + k)) _ _ (le-ltb _ _ (omega arith)) ∙ cond-false (ltb n (1 + k + h)) _ _ (le-ltb _ _ (omega arith))
-      ∙ ap (λ m. component_label key (m / P) (m % P)) e
-      ∙ (λ t. component_label key (div-mul-add i P j l t) (mod-mul-add i P j l t))
+      ∙ ap (λ m. chain_label key (m / P) (m % P)) e
+      ∙ (λ t. chain_label key (div-mul-add i P j l t) (mod-mul-add i P j l t))
 
   -- ---- the place of each label
-  of_check : (i : ℕ) → i < k → row_of k h w (check_label key i) ≡ Some (1 + i)
+  of_check : (i : ℕ) → i < k → row_of k h w (check_row_label key i) ≡ Some (1 + i)
   of_check i l = cond-true (eqb 5 5 && (ltb i k && eqb 0 0)) (Some (1 + i)) _ (and_from (ltb i k) _ (lt-ltb i k l) refl)
 
   of_path : (i : ℕ) → i < h → row_of k h w (path_label key i) ≡ Some (1 + k + i)
   of_path i l = cond-true (eqb 1 1 && (ltb i h && eqb 0 0)) (Some (1 + k + i)) _ (and_from (ltb i h) _ (lt-ltb i h l) refl)
 
-  of_component : (i j : ℕ) → i < C → j < P → row_of k h w (component_label key i j) ≡ Some (1 + k + h + i * P + j)
+  of_component : (i j : ℕ) → i < C → j < P → row_of k h w (chain_label key i j) ≡ Some (1 + k + h + i * P + j)
   of_component i j l m = cond-true (eqb 2 2 && (ltb i C && ltb j P)) (Some (1 + k + h + i * P + j)) None (and_from (ltb i C) _ (lt-ltb i C l) (lt-ltb j P m))
 
   -- ---- there and back

@@ -15,6 +15,7 @@ rows_of_key h w = part_rows h w 8
 abbrev pub book_holds : ℕ → ℕ → ℕ → List ℕ → ℕ → Bool
 book_holds h w first bytes key = nat_le first key && (nat_lt key (2 ^ h) && nat_lt (key - first) (length bytes / (32 * rows_of_key h w)))
 
+-- a row of the key whose rows begin at a place, or zeros
 abbrev pub row_at_place : List ℕ → ℕ → Option ℕ → List ℕ
 row_at_place bytes start None = replicate 32 0
 row_at_place bytes start (Some r) = row_at (start + r) bytes
@@ -23,5 +24,6 @@ row_at_place bytes start (Some r) = row_at (start + r) bytes
 abbrev pub book_pad : ℕ → ℕ → ℕ → List ℕ → Label → List ℕ
 book_pad h w first bytes l = cond (book_holds h w first bytes l.key) (row_at_place bytes (rows_of_key h w * (l.key - first)) (row_of 8 h w l)) (replicate 32 0)
 
+-- a book as a source
 abbrev pub of_book : ℕ → ℕ → ℕ → List ℕ → (List ℕ → List ℕ) → Source
 of_book h w first bytes mac = record { held = book_holds h w first bytes; pad = book_pad h w first bytes; check = λ k prefix. mac (check_bytes k prefix) }

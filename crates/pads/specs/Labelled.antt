@@ -3,27 +3,31 @@ use Rattle.std.specs.Prelude.{ℕ, ◌+◌, ◌-◌, ◌*◌, ◌/◌, ◌%◌, 
 use Rattle.lms.specs.Scheme.{components, positions}
 use Rattle.pads.specs.declared.label.Label.{Label}
 
+-- ---- the labels of a key, by what stands in the row
 abbrev pub prefix_label : ℕ → Label
 prefix_label key = record { kind = 4; key = key; i = 0; j = 0 }
 
-abbrev pub check_label : ℕ → ℕ → Label
-check_label key i = record { kind = 5; key = key; i = i; j = 0 }
+-- of the member at position i
+abbrev pub check_row_label : ℕ → ℕ → Label
+check_row_label key i = record { kind = 5; key = key; i = i; j = 0 }
 
+-- level i
 abbrev pub path_label : ℕ → ℕ → Label
 path_label key i = record { kind = 1; key = key; i = i; j = 0 }
 
-abbrev pub component_label : ℕ → ℕ → ℕ → Label
-component_label key i j = record { kind = 2; key = key; i = i; j = j }
+-- chain i at position j
+abbrev pub chain_label : ℕ → ℕ → ℕ → Label
+chain_label key i j = record { kind = 2; key = key; i = i; j = j }
 
--- the label of row n
+-- ---- the label of row n
 abbrev pub label_at : ℕ → ℕ → ℕ → ℕ → ℕ → Label
 label_at k h w key n =
     cond (nat_lt n 1) (prefix_label key) (
-    cond (nat_lt n (1 + k)) (check_label key (n - 1)) (
+    cond (nat_lt n (1 + k)) (check_row_label key (n - 1)) (
     cond (nat_lt n (1 + k + h)) (path_label key (n - (1 + k)))
-    (component_label key ((n - (1 + k + h)) / positions w) ((n - (1 + k + h)) % positions w))))
+    (chain_label key ((n - (1 + k + h)) / positions w) ((n - (1 + k + h)) % positions w))))
 
--- and back: the row of a label, where its key's part has it
+-- ---- and back: the row of a label, where its key's part has it
 abbrev pub row_of : ℕ → ℕ → ℕ → Label → Option ℕ
 row_of k h w l =
     cond (l.kind == 4 && (l.i == 0 && l.j == 0)) (Some 0) (

@@ -20,6 +20,9 @@ use rows::{Row, row_at};
 use sha256::Hasher;
 use sizes::{Height, Width};
 
+// A book has check rows for as many members as a group may have, whatever the size of a key's group.
+const CHECK_ROWS: usize = 8;
+
 // The keys from `first` on have their rows one after the other; the check pads are HMAC-SHA-256 under a key of the book's own.
 #[derive(Clone, Copy)]
 pub struct Book<'a> {
@@ -54,9 +57,11 @@ impl<'a> Book<'a> {
     // How many rows each key has.
     fn rows_of_key(&self) -> usize
         ensures value { result ≡ rows_of_key (levels self.now.height) (bits self.now.width) }
-        ensures some { (1 ≤ result) × (result ≤ 100000) }
+        ensures bounds { (1 ≤ result) × (result ≤ 100000) }
     {
-        9 + self.height.levels() + scheme::components(self.width) * scheme::positions(self.width)
+        1 + CHECK_ROWS
+            + self.height.levels()
+            + scheme::components(self.width) * scheme::positions(self.width)
     }
 
     // Which of a key's rows a label has, if any.
@@ -68,10 +73,10 @@ impl<'a> Book<'a> {
         let positions = scheme::positions(self.width);
         match (label.kind, label.i as usize, label.j as usize) {
             (PREFIX, 0, 0) => Some(0),
-            (CHECK_ROW, i @ 0..8, 0) => Some(1 + i),
-            (PATH, i, 0) if i < levels => Some(9 + i),
+            (CHECK_ROW, i, 0) if i < CHECK_ROWS => Some(1 + i),
+            (PATH, i, 0) if i < levels => Some(1 + CHECK_ROWS + i),
             (CHAIN, i, j) if i < components && j < positions => Some(
-                9 + levels + i * positions + j,
+                1 + CHECK_ROWS + levels + i * positions + j,
             ),
             _ => None,
         }

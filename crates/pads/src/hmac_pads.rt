@@ -6,7 +6,7 @@ ghost use Rattle.pads.specs.Source.{by_mac, mac_under};
 ghost use Rattle.pads.specs.declared.label.Label.{Label as Name};
 
 use crate::interface::Pads;
-use crate::label::{Label, check_label};
+use crate::label::{Label, check_pad_label};
 use hash::Hash;
 use hash::hmac::HmacKey;
 use rows::Row;
@@ -55,7 +55,7 @@ impl<H: Hash> Pads for HmacPads<H> {
     }
 
     fn check_pad(&self, key: u32, prefix: &Row) -> Row {
-        self.key.mac(&check_label(key, prefix))
+        self.key.mac(&check_pad_label(key, prefix))
     }
 
     fn pads(&self, labels: &[Label; 8]) -> [Row; 8] {

@@ -1,6 +1,7 @@
 // What a pad is for: a row of a key.
 ghost use Rattle.std.specs.Prelude.{◌≡◌};
 ghost use Rattle.pads.specs.Labels.{label_bytes, check_bytes};
+ghost use Rattle.pads.specs.Labelled.{prefix_label, check_row_label, path_label, chain_label};
 
 use rows::{Row, put};
 
@@ -30,7 +31,7 @@ pub struct Label {
 
 impl Label {
     pub fn path(key: u32, level: u16) -> Label
-        ensures { result ≡ record { kind = 1; key = key; i = level; j = 0 } }
+        ensures { result ≡ path_label key level }
     {
         Label {
             kind: PATH,
@@ -41,7 +42,7 @@ impl Label {
     }
 
     pub fn chain(key: u32, chain: u16, position: u8) -> Label
-        ensures { result ≡ record { kind = 2; key = key; i = chain; j = position } }
+        ensures { result ≡ chain_label key chain position }
     {
         Label {
             kind: CHAIN,
@@ -52,7 +53,7 @@ impl Label {
     }
 
     pub fn prefix(key: u32) -> Label
-        ensures { result ≡ record { kind = 4; key = key; i = 0; j = 0 } }
+        ensures { result ≡ prefix_label key }
     {
         Label {
             kind: PREFIX,
@@ -63,7 +64,7 @@ impl Label {
     }
 
     pub fn check_row(key: u32, member: u16) -> Label
-        ensures { result ≡ record { kind = 5; key = key; i = member; j = 0 } }
+        ensures { result ≡ check_row_label key member }
     {
         Label {
             kind: CHECK_ROW,
@@ -84,7 +85,7 @@ impl Label {
 }
 
 // The 40 bytes of a check pad's label: kind 10 and the key, and the prefix behind them.
-pub(crate) fn check_label(key: u32, prefix: &Row) -> [u8; 40]
+pub(crate) fn check_pad_label(key: u32, prefix: &Row) -> [u8; 40]
     ensures { result ≡ check_bytes key prefix.now }
 {
     let label = Label {

@@ -5,7 +5,7 @@ ghost use Rattle.plan.specs.Members.{members};
 ghost use Rattle.plan.specs.View.{view};
 ghost use Rattle.pads.specs.Source.{nothing};
 ghost use Rattle.lms.specs.Scheme.{positions};
-ghost use Rattle.pads.specs.Labelled.{label_at, component_label};
+ghost use Rattle.pads.specs.Labelled.{label_at, chain_label};
 ghost use Rattle.splitting.specs.KeyParts.{label_in};
 
 use crate::key_part::KeyPart;
@@ -48,7 +48,7 @@ impl KeyPart {
     // The label of row n of the components.
     fn component(&self, n: usize) -> Label
         requires { n < 65536 }
-        ensures { result ≡ component_label self.now.key (n / positions (bits self.now.width)) (n % positions (bits self.now.width)) }
+        ensures { result ≡ chain_label self.now.key (n / positions (bits self.now.width)) (n % positions (bits self.now.width)) }
     {
         let positions = scheme::positions(self.width);
         Label::chain(self.key, (n / positions) as u16, (n % positions) as u8)

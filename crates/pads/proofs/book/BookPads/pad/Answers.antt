@@ -16,7 +16,7 @@ overflow_mul-rows_of_key-2 c =
     let value : each ≡ rows_of_key h w = c.rows_of_key.ensures.value in
     let below : row < rows_of_key h w = (back 8 h w row c.args.label (sym c.in-Some.ensures)).0 in
     let key : c.args.label.key < 4294967296 = search rules in
-    let small = place_small each (c.args.label.key - book.first) row c.rows_of_key.ensures.some.1 (omega (arith, key)) (omega (arith, value, below)) in
+    let small = place_small each (c.args.label.key - book.first) row c.rows_of_key.ensures.bounds.1 (omega (arith, key)) (omega (arith, value, below)) in
     omega (arith, small)
 
 pub returns : goal.returns
