@@ -1,8 +1,7 @@
 // The blocks of a vector file: lines of the form `name = value`, ended by a blank line.
-ghost use Rattle.std.specs.Prelude.{◌≡◌, ℕ, List, [], Some, None, IfOk, MatchResult};
+ghost use Rattle.std.specs.Prelude.{◌≡◌, ℕ, ◌++◌, [], map, Some, None, IfOk, MatchResult};
 ghost use Rattle.std.specs.Option.{option_map};
-ghost use Rattle.vector_files.specs.Blocks.{value_of};
-ghost use Rattle.vector_files.specs.Hex.{decoded};
+ghost use Rattle.vector_files.specs.Blocks.{said, saying, value_of, IsNumber, IsBytes, IsMessage};
 
 use crate::hex;
 use anyhow::{Context, anyhow, ensure};
@@ -61,7 +60,12 @@ impl<'t> Block<'t> {
     }
 
     // Takes in a line; one without an equals sign is passed over.
-    pub fn add(&mut self, line: &'t str, number: usize) -> Result<(), AllocError> {
+    pub fn add(&mut self, line: &'t str, number: usize) -> Result<(), AllocError>
+        ensures heap { self.new.heap ≡ self.old.heap }
+        ensures fields { MatchResult result
+            (λ _. map said self.new.fields.items ≡ map said self.old.fields.items ++ saying line.now number)
+            (λ _. self.new.fields.items ≡ self.old.fields.items) }
+    {
         if let Some((name, value)) = line.split_once('=') {
             self.fields.push(Field {
                 name: name.trim(),
@@ -86,7 +90,9 @@ impl<'t> Block<'t> {
         self.text(name).context("a vector lacks a value")
     }
 
-    pub fn number(&self, name: &str) -> anyhow::Result<u32> {
+    pub fn number(&self, name: &str) -> anyhow::Result<u32>
+        ensures { MatchResult result (IsNumber (value_of name.now self.now.fields.items)) (λ _. (n : ℕ) → IsNumber (value_of name.now self.now.fields.items) n → ⊥) }
+    {
         Ok(self.required(name)?.parse::<u32>()?)
     }
 
@@ -100,7 +106,9 @@ impl<'t> Block<'t> {
     }
 
     // The message: given in hexadecimal, or as one byte and how often it comes.
-    pub fn message(&self) -> anyhow::Result<Vec<u8>> {
+    pub fn message(&self) -> anyhow::Result<Vec<u8>>
+        ensures { IfOk result (λ v. IsMessage self.now.fields.items v.items) }
+    {
         if self.text("message").is_some() {
             return self.bytes("message");
         }
@@ -112,7 +120,7 @@ impl<'t> Block<'t> {
 
     // Exactly N bytes.
     pub fn array<const N: usize>(&self, name: &str) -> anyhow::Result<[u8; N]>
-        ensures { IfOk result (λ a. (t : List ℕ) × (value_of name.now self.now.fields.items ≡ Some t) × (decoded t ≡ Some a)) }
+        ensures { IfOk result (IsBytes (value_of name.now self.now.fields.items)) }
     {
         let bytes = self.bytes(name)?;
         ensure!(bytes.len() == N, "a value has not {N} bytes");
@@ -122,7 +130,7 @@ impl<'t> Block<'t> {
     }
 
     pub fn bytes(&self, name: &str) -> anyhow::Result<Vec<u8>>
-        ensures { IfOk result (λ v. (t : List ℕ) × (value_of name.now self.now.fields.items ≡ Some t) × (decoded t ≡ Some v.items)) }
+        ensures { IfOk result (λ v. IsBytes (value_of name.now self.now.fields.items) v.items) }
     {
         hex::decode(self.heap, self.required(name)?)?.context("a value is not hexadecimal")
     }

@@ -1,4 +1,6 @@
 // A folder of vector files, and the count over those that were run.
+ghost use Rattle.std.specs.Prelude.{◌≡◌, ◌<◌, ◌≤◌, IfOk};
+
 use crate::count::Count;
 use crate::run::Run;
 use crate::suite::Suite;
@@ -14,7 +16,13 @@ pub struct Folder<'a> {
 }
 
 impl<'a> Folder<'a> {
-    pub fn new(rt: &'a HostRuntime, path: &'a str) -> Folder<'a> {
+    pub fn new(rt: &'a HostRuntime, path: &'a str) -> Folder<'a>
+        ensures rt { result.rt ≡ rt.entry }
+        ensures path { result.path ≡ path.entry }
+        ensures files { result.files ≡ 0 }
+        ensures cases { result.count.cases ≡ 0 }
+        ensures wrong { result.count.wrong ≡ 0 }
+    {
         Folder {
             rt,
             path,
@@ -23,17 +31,27 @@ impl<'a> Folder<'a> {
         }
     }
 
-    pub fn rt(&self) -> &'a HostRuntime {
+    pub fn rt(&self) -> &'a HostRuntime
+        ensures { result ≡ self.now.rt }
+    {
         self.rt
     }
 
     // How many files were run.
-    pub fn files(&self) -> usize {
+    pub fn files(&self) -> usize
+        ensures { result ≡ self.now.files }
+    {
         self.files
     }
 
     // Runs a file, if it is there.
-    pub fn run<S: Suite + Drop>(&mut self, name: &str, suite: S) -> anyhow::Result<()> {
+    pub fn run<S: Suite + Drop>(&mut self, name: &str, suite: S) -> anyhow::Result<()>
+        ensures rt { self.new.rt ≡ self.old.rt }
+        ensures path { self.new.path ≡ self.old.path }
+        ensures files { self.old.files ≤ self.new.files }
+        ensures cases { self.old.count.cases ≤ self.new.count.cases }
+        ensures wrong { self.old.count.wrong ≤ self.new.count.wrong }
+    {
         let rt = self.rt;
         let path = self.path;
         let file = format!(in rt.alloc(); "{path}/{name}")?;
@@ -49,8 +67,10 @@ impl<'a> Folder<'a> {
         Ok(())
     }
 
-    // The last line, and the verdict.
-    pub fn finish(self) -> anyhow::Result<()> {
+    // The last line, and the verdict: good only if a file was run, and no case was wrong.
+    pub fn finish(self) -> anyhow::Result<()>
+        ensures { IfOk result (λ _. (0 < self.entry.files) × (self.entry.count.wrong ≡ 0)) }
+    {
         let count = self.count;
         println!(self.rt; "total: {count}")?;
         ensure!(self.files > 0, "no vector file was found");

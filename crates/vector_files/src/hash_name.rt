@@ -1,5 +1,8 @@
 // The two hashes, by the names that vectors give them.
 ghost use Rattle.std.specs.Prelude.{◌≡◌, Some, codes, MatchResult, ◌≢◌};
+ghost use Rattle.vector_files.specs.Blocks.{value_of};
+ghost use Rattle.vector_files.specs.Hashes.{name_of};
+ghost use Rattle.vector_files.specs.declared.hash_name.HashName.{HashName};
 
 use crate::blocks::Block;
 use std::error::Error;
@@ -43,7 +46,12 @@ impl TryFrom<&str> for HashName {
 }
 
 impl HashName {
-    pub fn of(block: &Block) -> anyhow::Result<HashName> {
+    // The hash that a block names.
+    pub fn of(block: &Block) -> anyhow::Result<HashName>
+        ensures { MatchResult result
+            (λ h. value_of (codes "hash") block.now.fields.items ≡ Some (name_of h))
+            (λ _. (h : HashName) → value_of (codes "hash") block.now.fields.items ≢ Some (name_of h)) }
+    {
         Ok(HashName::try_from(block.required("hash")?)?)
     }
 }
