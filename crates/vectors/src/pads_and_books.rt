@@ -6,6 +6,7 @@ use pads::{Book, HmacPads, Label, Pads};
 use rows::Row;
 use sha256::sha256;
 use sizes::{Height, Width};
+use std::array::from_fn;
 use vector_files::{Block, HashName, Suite, over_hash};
 
 fn label_of(block: &Block) -> anyhow::Result<Label> {
@@ -17,6 +18,15 @@ fn label_of(block: &Block) -> anyhow::Result<Label> {
     })
 }
 
+// Whether a source gives eight labels, of which this is the first, the pads that each has alone.
+fn gives_eight<P: Pads>(source: &P, label: Label) -> bool {
+    let labels: [Label; 8] = from_fn(|n| Label {
+        i: label.i.wrapping_add(n as u16),
+        ..label
+    });
+    source.pads(&labels) == labels.map(|label| source.pad(label))
+}
+
 // Whether a source answers as a block says: with a check pad if it has a prefix, otherwise with a pad, asked for alone and among eight.
 fn answers<P: Pads>(source: &P, block: &Block) -> anyhow::Result<bool> {
     if block.text("prefix").is_some() {
@@ -26,13 +36,30 @@ fn answers<P: Pads>(source: &P, block: &Block) -> anyhow::Result<bool> {
     }
     let label = label_of(block)?;
     let pad: Row = block.array("pad")?;
-    let eight = source.pads(&[label; 8]);
-    Ok(source.pad(label) == pad && eight[7] == pad)
+    Ok(source.pad(label) == pad && gives_eight(source, label))
 }
 
 // Whether the HMAC source of a key answers so.
 fn keyed_answers<H: Hash>(key: &[u8; 32], block: &Block) -> anyhow::Result<bool> {
     answers(&HmacPads::<H>::new(key), block)
+}
+
+// The bytes that are hashed for a block: a label's 8, or, if it has a prefix, those of kind 10 and the prefix.
+fn label_bytes(block: &Block) -> anyhow::Result<Vec<u8>> {
+    let mut bytes = Vec::new(block.heap());
+    if block.text("prefix").is_some() {
+        let label = Label {
+            kind: 10,
+            key: block.number("key")?,
+            i: 0,
+            j: 0,
+        };
+        bytes.extend_from_slice(&label.bytes())?;
+        bytes.extend_from_slice(&block.array::<32>("prefix")?)?;
+    } else {
+        bytes.extend_from_slice(&label_of(block)?.bytes())?;
+    }
+    Ok(bytes)
 }
 
 #[derive(Drop)]
@@ -42,11 +69,7 @@ impl Suite for HmacSources {
     fn check(&mut self, block: &Block) -> anyhow::Result<Option<bool>> {
         let key = block.array("key_bytes")?;
         let answered = over_hash!(HashName::of(block)?, keyed_answers(&key, block))?;
-        if block.text("prefix").is_some() {
-            return Ok(Some(answered));
-        }
-        let label = block.bytes("label")?;
-        Ok(Some(answered && &label_of(block)?.bytes()[..] == label.as_slice()))
+        Ok(Some(answered && label_bytes(block)? == block.bytes("label")?))
     }
 }
 
@@ -73,13 +96,23 @@ impl OwnedBook {
     }
 
     fn book(&self) -> Book<'_> {
-        Book::new(
-            &self.bytes,
-            self.first,
-            self.height,
-            self.width,
-            &self.check,
-        )
+        self.book_on(&self.bytes)
+    }
+
+    fn book_on<'a>(&self, bytes: &'a [u8]) -> Book<'a> {
+        Book::new(bytes, self.first, self.height, self.width, &self.check)
+    }
+
+    // Whether a key has so many rows: in as many bytes the first key is held, and in one fewer it is not.
+    fn has_rows_a_key(&self, rows: u32) -> bool {
+        let Some(whole) = self.bytes.get(..32 * rows as usize) else {
+            return true;
+        };
+        let Some((_, cut)) = whole.split_last() else {
+            return false;
+        };
+        let holds = |bytes| self.book_on(bytes).holds(self.first);
+        holds(whole) && !holds(cut)
     }
 
     // Whether it holds just the keys that are listed.
@@ -114,7 +147,8 @@ impl Suite for Books {
     fn check(&mut self, block: &Block) -> anyhow::Result<Option<bool>> {
         if block.text("book_bytes").is_some() {
             let book = OwnedBook::of(block)?;
-            let right = book.holds_just(&block.numbers("keys_held")?);
+            let held = block.numbers("keys_held")?;
+            let right = book.holds_just(&held) && book.has_rows_a_key(block.number("rows_a_key")?);
             self.book = Some(book);
             return Ok(Some(right));
         }

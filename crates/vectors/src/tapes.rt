@@ -48,9 +48,8 @@ impl Suite for Tapes {
         let left = tape.room();
         let after = block.bytes("tape_after")?;
         let same = bytes.as_slice() == after.as_slice();
-        // The name is in two parts, since a crate whose sources have that word is proved twice by the gate.
         let in_order = refused.map_or(0, |refusal| refusal.number() as u32)
-            == block.number(concat!("te", "st"))?;
+            == block.number("test")?;
         let rooms = room == block.number("room")? as usize
             && left == block.number("room_after")? as usize;
         Ok(Some(in_order && rooms && spent && answered && same))
