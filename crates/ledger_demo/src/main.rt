@@ -1,7 +1,11 @@
 // Shows a tape made, spent on, opened again and refused when damaged, a mirror of a tape and a bitmap, and a mirror over a mirror.
 #![tactic(auto)]
 
-use ledger::{Bitmap, Ledger, Mirror, next_free};
+ghost use Rattle.std.specs.Prelude.{◌≡◌, MatchResult};
+ghost use Rattle.tape.specs.Lines.{lines, flat, spent_on};
+
+use either::Either;
+use ledger::{Bitmap, Ledger, Mirror, Refusal, next_free};
 use sizes::Height;
 use std::{io, str};
 use tape::Tape;
@@ -26,7 +30,7 @@ fn check(rt: &HostRuntime, bytes: &[u8]) -> io::Result<()> {
     Ok(())
 }
 
-// A tape of three lines: two keys, one of them twice.
+// A tape of three lines: two keys are spent, and one of them a second time, which is refused.
 fn show_tape(rt: &HostRuntime, bytes: &mut [u8]) -> io::Result<()> {
     let mut tape = Tape::make(bytes, Height::Five);
     let room = tape.room();
@@ -75,6 +79,29 @@ fn show_pile(rt: &HostRuntime) -> io::Result<()> {
     Ok(())
 }
 
+// Ledgers of two kinds in one slice. (A vector, since an array of enums that hold a `&mut` is not possible yet.)
+fn show_kinds(rt: &HostRuntime) -> io::Result<()> {
+    let mut line = [b' '; 6];
+    let mut ledgers = Vec::new(rt.alloc());
+    ledgers.push(Either::Left(Tape::open(&mut line, Height::Five)))?;
+    ledgers.push(Either::Right(Bitmap::new(Height::Five)))?;
+    println!(rt; "a tape of one line and a bitmap in one slice")?;
+    for ledger in &mut ledgers {
+        spend(rt, ledger, 3)?;
+        spend(rt, ledger, 4)?;
+    }
+    Ok(())
+}
+
+// Spends a key on bytes that are lent to a tape for this alone. Afterwards their owner knows each of them: the key's line is written over the first
+// unused one, or nothing is altered.
+fn spend_on(bytes: &mut [u8], key: u32) -> Result<(), Refusal>
+    ensures { MatchResult result (λ _. bytes.new ≡ flat (spent_on (lines bytes.old) key)) (λ _. bytes.new ≡ bytes.old) }
+{
+    let mut tape = Tape::open(bytes, Height::Five);
+    tape.spend(key)
+}
+
 fn main(rt: HostRuntime) -> io::Result<()> {
     let mut bytes = [0u8; 18];
     show_tape(&rt, &mut bytes)?;
@@ -86,5 +113,10 @@ fn main(rt: HostRuntime) -> io::Result<()> {
     check(&rt, &bytes)?;
     let mut damaged = Tape::open(&mut bytes, Height::Five);
     spend(&rt, &mut damaged, 9)?;
-    show_pile(&rt)
+    show_pile(&rt)?;
+    show_kinds(&rt)?;
+    let mut lent = [b' '; 6];
+    let refused = spend_on(&mut lent, 3).is_err();
+    println!(rt; "bytes that were lent for one spend: refused {refused}")?;
+    check(&rt, &lent)
 }
