@@ -10,6 +10,7 @@ use Rattle.std.proofs.lemmas.Str.{IsUtf8-from_ascii}
 use Rattle.std.proofs.lemmas.Fmt.{decimal-digits_value, digits_decimal, digits_value-decimal, decimal_nonempty, first_decimal, length-decimal-le, decimal_digit}
 use Rattle.std.proofs.lemmas.List.{length-append, length-replicate}
 use Rattle.std.proofs.lemmas.Bool.{ne_eqb, eqb-true, eqb-false, leb-true, ltb-true, lt-ltb, le-leb, cond-true, cond-false, cond_both, and_parts, and_from, or_cases, or_left, or_right, not-true, not_from_false, cases_Bool, cases_lt}
+use Rattle.std.proofs.lemmas.Option.{none-some}
 use Rattle.columns.specs.Number.{spaces, right, unpadded, read_on, plain, number, number_in}
 
 pub own : IsNumeralModel (λ ds. all_ascii_digits ds ≡ true) (read_on 0)
@@ -40,7 +41,7 @@ number_is f v short e =
     let low : read_on 0 ds < 10 ^ 9 = digits_value_short own ds 9 q.1 (omega (arith, p.0)) in
     let d : decimal v ≡ ds = ap decimal (sym v-is) ∙ decimal-digits_value own ds q.1 some lead (omega arith) in
     (p.1 ∙ ap (λ xs. spaces (length f - length xs) ++ xs) (sym d), omega (arith, v-is)))
-    (λ (n : plain ds ≡ false). let q = sym (cond-false (plain ds) (Some (read_on 0 ds)) None n) ∙ e in let z : ◌≡◌ {A = ℕ} 0 1 = cc in absurd (omega arith))
+    (λ (n : plain ds ≡ false). absurd (none-some _ (sym (cond-false (plain ds) (Some (read_on 0 ds)) None n) ∙ e)))
     (cases_Bool (plain ds))
 
 -- leading spaces go

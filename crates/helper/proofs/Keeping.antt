@@ -1,6 +1,7 @@
 -- Entries that are looked up, and one that is put among them.
 use Rattle.std.proofs.Common.{◌≡◌, ℕ, zero, suc, ◌<◌, true, false, eqb, ltb, List, [], ◌∷◌, length, set, Some, None, Ok, Err, Option, sym, refl, ap, ◌∙◌, ⊎_elim, arith}
 use Rattle.std.proofs.lemmas.Bool.{cases_Bool, and_from, and_parts, eq-eqb, eqb-true, lt-ltb, cond-true, cond-false}
+use Rattle.std.proofs.lemmas.Option.{none-some}
 use Rattle.helper.specs.declared.entry.Entry.{Entry}
 use Rattle.helper.specs.declared.refusal.Refusal.TheVariants.{Beyond}
 use Rattle.helper.specs.Holding.{Holding, reading}
@@ -15,14 +16,14 @@ found_put (Some y ∷ es) (suc i) x none l =
     let t = is_of x.key x.index y in
     let rest = lookup es x.key x.index in
     ⊎_elim
-    (λ (e : t ≡ true). let z : Some y.row ≡ None = sym (cond-true t (Some y.row) rest e) ∙ none in let no : ◌≡◌ {A = ℕ} 0 1 = cc in absurd (omega arith))
+    (λ (e : t ≡ true). absurd (none-some y.row (sym none ∙ cond-true t (Some y.row) rest e)))
     (λ (e : t ≡ false). cond-false t _ _ e ∙ found_put es i x (sym (cond-false t (Some y.row) rest e) ∙ none) (omega arith))
     (cases_Bool t)
 
 module _ (h : Holding) where
   -- what is found among entries that agree is the row below
   pub found_below : (es : List (Option Entry)) (key index : ℕ) (row : List ℕ) → Agrees es h → Some row ≡ lookup es key index → row ≡ h.row key index
-  found_below [] key index row a e = let no : ◌≡◌ {A = ℕ} 0 1 = cc in absurd (omega arith)
+  found_below [] key index row a e = absurd (none-some row (sym e))
   found_below (None ∷ es) key index row a e = found_below es key index row (λ n. a (suc n)) e
   found_below (Some x ∷ es) key index row a e =
       let t = is_of key index x in

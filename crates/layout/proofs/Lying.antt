@@ -8,6 +8,7 @@ use Rattle.std.proofs.lemmas.Iterator.Consumers.{YieldsList-from_first, YieldsLi
 use Rattle.std.proofs.lemmas.List.FromFn.{length-map-range_with_len, get_or-map-range_with_len, sum_by-map-range_with_len_more}
 use Rattle.std.specs.List.{sum_by, range_with_len}
 use Rattle.std.proofs.lemmas.Bool.{and_parts, cases_Bool, cases_eq, cases_lt, cond-true, cond-false, leb-true, ltb-true, eq-eqb}
+use Rattle.std.proofs.lemmas.Option.{none-some, same_Some}
 use Rattle.sizes.specs.declared.height.Height.{Height}
 use Rattle.sizes.specs.declared.width.Width.{Width}
 use Rattle.sizes.specs.Sizes.{levels, bits}
@@ -222,12 +223,9 @@ group_rows plan n g h w r eh ew eg er = er ∙ (λ i. part_rows (levels (eh i)) 
 pub section_found : (p : Shape) (key : ℕ) (s : Section) → Some s ≡ option_map (section_of p) (owner p key) → (g : ℕ) × (owner p key ≡ Some g) × (s ≡ section_of p g)
 section_found p key s e = from (owner p key) e
   where
-    taken : (x y : Section) → Some x ≡ Some y → x ≡ y
-    taken x y h = cc
-
     from : (o : Option ℕ) → Some s ≡ option_map (section_of p) o → (g : ℕ) × (o ≡ Some g) × (s ≡ section_of p g)
-    from None h = let z : ◌≡◌ {A = ℕ} 0 1 = cc in absurd (omega arith)
-    from (Some g) h = (g, refl, taken s (section_of p g) h)
+    from None h = absurd (none-some s (sym h))
+    from (Some g) h = (g, refl, same_Some s (section_of p g) h)
 
 -- in a buffer of the table's length
 pub in_whole : (p : Shape) (key n g : ℕ) (f : ℕ → ℕ) → n ≡ 32 * table_rows p → owner p key ≡ Some g → in_table p key n f ≡ f g

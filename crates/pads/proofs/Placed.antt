@@ -2,6 +2,7 @@
 use Rattle.std.proofs.Common.{◌≡◌, ℕ, ◌+◌, ◌-◌, ◌*◌, ◌/◌, ◌%◌, ◌^◌, ◌<◌, ◌≤◌, Bool, true, false, cond, ◌&&◌, eqb, ltb, Some, None, Option, sym, refl, ap, ◌∙◌, subst, ⊎_elim, mul_comm, arith}
 use Rattle.std.proofs.lemmas.Nat.{pow_pos, div-add-mod', div-mul-add, mod-mul-add, div_below, mod_below, mul-add-lt}
 use Rattle.std.proofs.lemmas.Bool.{and_parts, and_from, cases_lt, cond-true, cond-false, eqb-true, lt-ltb, le-ltb, ltb-true}
+use Rattle.std.proofs.lemmas.Option.{none-some, same_Some}
 use Rattle.lms.specs.Scheme.{components, positions}
 use Rattle.layout.specs.Part.{part_rows}
 use Rattle.pads.specs.declared.label.Label.{Label}
@@ -80,12 +81,9 @@ module _ (k h w key : ℕ) where
 is_label : (l : Label) (kind i j : ℕ) → l.kind ≡ kind → l.i ≡ i → l.j ≡ j → record { kind = kind; key = l.key; i = i; j = j } ≡ l
 is_label l kind i j a b c = λ t. record { kind = sym a t; key = l.key; i = sym b t; j = sym c t }
 
-taken : (a b : ℕ) → Some a ≡ Some b → a ≡ b
-taken a b e = cc
-
 -- a choice that gives a row: here, or later
 chosen : {X : Type 0} (b : Bool) (m n : ℕ) (later : Option ℕ) → cond b (Some m) later ≡ Some n → (b ≡ true → m ≡ n → X) → (later ≡ Some n → X) → X
-chosen true m n later e here behind = here refl (taken m n e)
+chosen true m n later e here behind = here refl (same_Some m n e)
 chosen false m n later e here behind = behind e
 
 pub back : (k h w n : ℕ) (l : Label) → row_of k h w l ≡ Some n → (n < part_rows h w k) × (label_at k h w l.key n ≡ l)
@@ -116,4 +114,4 @@ back k h w n l e =
     let i = ltb-true l.i (components w) r.0 in
     let j = ltb-true l.j P r.1 in
     (omega (arith, mul-add-lt l.i P l.j (components w) i j, mul_comm P (components w)), subst is z (at_component k h w l.key l.i l.j j ∙ is_label l 2 l.i l.j (eqb-true _ _ q.0) refl refl)))
-    (λ none. cc))))
+    (λ none. absurd (none-some n none)))))

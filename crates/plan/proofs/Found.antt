@@ -5,6 +5,7 @@ use Rattle.std.proofs.lemmas.List.{length-take-le, at_drop_more, drop_all, lengt
 use Rattle.std.proofs.Math.ListN.{get_or-map}
 use Rattle.std.proofs.lemmas.List.FromFn.{length-range_with_len, get_or-range_with_len}
 use Rattle.std.proofs.lemmas.Bool.{cases_lt, lt-ltb, le-ltb, cond-true, cond-false, and_parts, leb-true}
+use Rattle.std.proofs.lemmas.Option.{none-some, same_Some}
 use Rattle.plan.specs.declared.group.Group.{Group}
 use Rattle.plan.specs.declared.plans.Plan.{Plan}
 use Rattle.plan.specs.Shape.{Shape}
@@ -18,17 +19,14 @@ module _ (p : Shape) (n : ℕ) where
   pub group_found : (g : Group) → Some g ≡ group_at p n → (n < length p.masks) × (g ≡ group_of p n)
   group_found g e =
       ⊎_elim
-      (λ (l : n < length p.masks). let s : Some g ≡ Some (group_of p n) = e ∙ cond-true (ltb n (length p.masks)) _ None (lt-ltb _ _ l) in (l, taken g (group_of p n) s))
-      (λ (l : length p.masks ≤ n). let s : Some g ≡ None = e ∙ cond-false (ltb n (length p.masks)) (Some (group_of p n)) None (le-ltb _ _ l) in let z : ◌≡◌ {A = ℕ} 0 1 = cc in absurd (omega arith))
+      (λ (l : n < length p.masks). (l, same_Some g (group_of p n) (e ∙ cond-true (ltb n (length p.masks)) _ None (lt-ltb _ _ l))))
+      (λ (l : length p.masks ≤ n). absurd (none-some g (sym (e ∙ cond-false (ltb n (length p.masks)) (Some (group_of p n)) None (le-ltb _ _ l)))))
       (cases_lt n (length p.masks))
-    where
-      taken : (x y : Group) → Some x ≡ Some y → x ≡ y
-      taken x y s = cc
 
   pub group_missing : None ≡ group_at p n → length p.masks ≤ n
   group_missing e =
       ⊎_elim
-      (λ (l : n < length p.masks). let s : None ≡ Some (group_of p n) = e ∙ cond-true (ltb n (length p.masks)) _ None (lt-ltb _ _ l) in let z : ◌≡◌ {A = ℕ} 0 1 = cc in absurd (omega arith))
+      (λ (l : n < length p.masks). absurd (none-some (group_of p n) (e ∙ cond-true (ltb n (length p.masks)) _ None (lt-ltb _ _ l))))
       (λ (l : length p.masks ≤ n). l)
       (cases_lt n (length p.masks))
 

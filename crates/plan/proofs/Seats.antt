@@ -6,7 +6,7 @@ use Rattle.std.specs.List.{range_with_len, list_all}
 use Rattle.std.specs.Option.{option_map}
 use Rattle.std.proofs.lemmas.Bool.{and_parts, and_left, and_right, cases_Bool, cases_lt, cond_both, cond-true, cond-false, eqb-true, eq-eqb, ne_eqb, lt-leb, leb-true, false≢true}
 use Rattle.std.proofs.lemmas.Nat.{and_mask, one_shl}
-use Rattle.std.proofs.lemmas.Option.{slice_get-get_or, slice_get_within, get_or_from_slice_get}
+use Rattle.std.proofs.lemmas.Option.{slice_get-get_or, slice_get_within, get_or_from_slice_get, none-some, same_Some, cond_some}
 use Rattle.plan.specs.Members.{members, members_from, has, place}
 use Rattle.plan.specs.Laws.{Seats}
 use Rattle.plan.proofs.Tested.{tested_at}
@@ -108,10 +108,10 @@ climbs (x ∷ xs) c (suc i) (suc j) l m = climbs xs c.1 i j (omega arith) (omega
 
 -- ---- places
 there : (t : ℕ) (xs : List ℕ) (i : ℕ) → place t xs ≡ Some i → (i < length xs) × (get_or xs i 0 ≡ t)
-there t [] i h = let z : ◌≡◌ {A = ℕ} 0 1 = cc in absurd (omega arith)
+there t [] i h = absurd (none-some i h)
 there t (x ∷ xs) i h =
     ⊎_elim
-    (λ (e : eqb x t ≡ true). let s : Some 0 ≡ Some i = sym (cond-true (eqb x t) (Some 0) (option_map suc (place t xs)) e) ∙ h in let z : 0 ≡ i = cc in here i z (eqb-true x t e))
+    (λ (e : eqb x t ≡ true). here i (same_Some 0 i (sym (cond-true (eqb x t) (Some 0) (option_map suc (place t xs)) e) ∙ h)) (eqb-true x t e))
     (λ (e : eqb x t ≡ false). next (place t xs) i (there t xs) (sym (cond-false (eqb x t) (Some 0) (option_map suc (place t xs)) e) ∙ h))
     (cases_Bool (eqb x t))
   where
@@ -120,7 +120,7 @@ there t (x ∷ xs) i h =
     here (suc j) z e = absurd (omega arith)
 
     next : (o : Option ℕ) (j : ℕ) → ((k : ℕ) → o ≡ Some k → (k < length xs) × (get_or xs k 0 ≡ t)) → option_map suc o ≡ Some j → (j < length (x ∷ xs)) × (get_or (x ∷ xs) j 0 ≡ t)
-    next None j r h = let z : ◌≡◌ {A = ℕ} 0 1 = cc in absurd (omega arith)
+    next None j r h = absurd (none-some j h)
     next (Some k) zero r h = let z : suc k ≡ 0 = cc in absurd (omega arith)
     next (Some k) (suc j) r h = let z : suc k ≡ suc j = cc in let e : k ≡ j = omega arith in let q = r j (ap (λ n. Some n) e) in (omega (arith, q.0), q.1)
 
@@ -131,16 +131,11 @@ stands (x ∷ xs) c (suc i) l =
     let lt = c.0 i (omega arith) in
     cond-false (eqb x (get_or xs i 0)) (Some 0) _ (ne_eqb _ _ (λ e. omega arith)) ∙ ap (option_map suc) (stands xs c.1 i (omega arith))
 
--- a seat is given just to members
-seated : (b : Bool) (n i : ℕ) → cond b (Some n) None ≡ Some i → b ≡ true
-seated true n i h = refl
-seated false n i h = let z : ◌≡◌ {A = ℕ} 0 1 = cc in absurd (omega arith)
-
 pub seats : (mask : ℕ) → mask < 256 → Seats mask
 unfolding members
 seats mask small = record {
   rising = λ i j l m. climbs (members mask) (climbing_members 8 1 mask) i j l m;
-  placed = λ t i h. let q = there t (members mask) i h in (q.0, q.1, seated (has mask t) _ i (sym (place_is mask t small) ∙ h));
+  placed = λ t i h. let q = there t (members mask) i h in (q.0, q.1, (cond_some (has mask t) _ i (sym (place_is mask t small) ∙ h)).0);
   stands = λ i l. stands (members mask) (climbing_members 8 1 mask) i l;
   found = λ t h. (ones (mask % 2 ^ (t - 1)), place_is mask t small ∙ cond-true (has mask t) _ None h);
 }
@@ -194,7 +189,7 @@ below (suc k) a mask i l =
 pub member_at : (mask i : ℕ) (r : Option ℕ) → option_map (λ t. t) r ≡ slice_get (members mask) i
     → MatchOption r (length (members mask) ≤ i) (λ t. (i < length (members mask)) × (t ≡ get_or (members mask) i 0) × (1 ≤ t) × (t ≤ 8))
 unfolding members
-member_at mask i None e = ⊎_elim (λ (l : i < length (members mask)). let z : None ≡ Some (get_or (members mask) i 0) = e ∙ slice_get-get_or (members mask) i 0 l in let y : ◌≡◌ {A = ℕ} 0 1 = cc in absurd (omega arith)) (λ (l : length (members mask) ≤ i). l) (cases_lt i (length (members mask)))
+member_at mask i None e = ⊎_elim (λ (l : i < length (members mask)). absurd (none-some _ (e ∙ slice_get-get_or (members mask) i 0 l))) (λ (l : length (members mask) ≤ i). l) (cases_lt i (length (members mask)))
 member_at mask i (Some t) e =
     let l = slice_get_within (members mask) i t (sym e) in
     let is = get_or_from_slice_get (members mask) i t 0 (sym e) in

@@ -1,12 +1,13 @@
 -- The key ranges of a plan.
-use Rattle.std.proofs.Common.{◌≡◌, ℕ, zero, suc, ◌+◌, ◌*◌, ◌/◌, ◌%◌, ◌^◌, ◌<◌, ◌≤◌, Bool, true, false, ltb, leb, ◌⊎◌, List, map, length, Some, None, Option, sym, refl, ap, ◌∙◌, subst, inl, inr, ⊎_elim, mul_comm, mul-le-mul_left, mul-zero, mul-one, mul-add, arith}
+use Rattle.std.proofs.Common.{◌≡◌, ℕ, zero, suc, ◌+◌, ◌*◌, ◌/◌, ◌%◌, ◌^◌, ◌<◌, ◌≤◌, true, false, ltb, leb, ◌⊎◌, List, map, length, Some, None, Option, sym, refl, ap, ◌∙◌, subst, inl, inr, ⊎_elim, mul_comm, mul-le-mul_left, mul-zero, mul-one, mul-add, arith}
 use Rattle.std.proofs.lemmas.Nat.{le-div, div-add-mod', div_below, mod_below}
-use Rattle.std.proofs.lemmas.Bool.{and_parts, and_from, cases_Bool, cases_order, cases_lt, cond-true, cond-false, leb-true, le-leb, ltb-true, lt-ltb}
+use Rattle.std.proofs.lemmas.Bool.{and_parts, and_from, cases_Bool, cases_order, cases_lt, cond-true, cond-false, leb-true, le-leb, ltb-true, lt-ltb, true≢false}
 use Rattle.plan.specs.Shape.{Shape}
 use Rattle.plan.specs.Keys.{share, first_key, key_count, Owns, in_range, owner_from, owner}
 use Rattle.plan.specs.Groups.{group_of, owns_key}
 use Rattle.std.specs.List.{find, range_with_len}
 use Rattle.std.specs.Option.{option_map}
+use Rattle.std.proofs.lemmas.Option.{none-some}
 use Rattle.plan.specs.Laws.{Ranges, TenGroups, ten_groups}
 
 pub range_from : (first count key : ℕ) → first ≤ key → key < first + count → in_range first count key ≡ true
@@ -35,7 +36,7 @@ module _ (p : Shape) where
 
   pub owner_finds : (g k key j : ℕ) → owner_from p g k key ≡ Some j → (g ≤ j) × (j < g + k) × (in_range (first_key p j) (key_count p j) key ≡ true)
   unfolding owner_from
-  owner_finds g zero key j h = let z : ◌≡◌ {A = ℕ} 0 1 = cc in absurd (omega arith)
+  owner_finds g zero key j h = absurd (none-some j h)
   owner_finds g (suc k) key j h =
       let test = in_range (first_key p g) (key_count p g) key in
       ⊎_elim
@@ -56,13 +57,10 @@ module _ (p : Shape) where
       let r = range_parts (first_key p g) (key_count p g) key e in
       cond-true test (Some g) (owner_from p (g + 1) k key) e ∙ ap (λ i. Some i) (disjoint g j key (omega arith, r.0, r.1) o))
       (λ (e : test ≡ false).
-      let ne : g ≡ j → ⊥ = λ gj. absurd (clash test e (range_from (first_key p g) (key_count p g) key (subst (λ i. first_key p i ≤ key) (sym gj) o.1) (subst (λ i. key < first_key p i + key_count p i) (sym gj) o.2))) in
+      let ne : g ≡ j → ⊥ = λ gj. absurd (true≢false (sym (range_from (first_key p g) (key_count p g) key (subst (λ i. first_key p i ≤ key) (sym gj) o.1) (subst (λ i. key < first_key p i + key_count p i) (sym gj) o.2)) ∙ e)) in
       cond-false test (Some g) (owner_from p (g + 1) k key) e ∙ owner_found (g + 1) k key j (after low ne) (omega arith) (omega arith) o)
       (cases_Bool test)
     where
-      clash : (b : Bool) → b ≡ false → b ≡ true → ⊥
-      clash b f t = let z : true ≡ false = sym t ∙ f in let y : ◌≡◌ {A = ℕ} 0 1 = cc in omega arith
-
       after : {a b : ℕ} → a ≤ b → (a ≡ b → ⊥) → a + 1 ≤ b
       after {a} {b} l n = ⊎_elim (λ (e : a ≡ b). absurd (n e)) (λ (o : (a < b) ⊎ (b < a)). ⊎_elim (λ (x : a < b). omega arith) (λ (x : b < a). omega arith) o) (cases_order a b)
 

@@ -5,6 +5,7 @@ use Rattle.std.specs.List.{flat_map}
 use Rattle.std.proofs.lemmas.Nat.{pow-add}
 use Rattle.std.proofs.lemmas.List.{replicate-append-replicate, nil_from_length}
 use Rattle.std.proofs.lemmas.Bool.{ne_eqb, eqb-true, leb-true, ltb-true, cond-false, and_parts, or_cases, cases_Bool, false≢true}
+use Rattle.std.proofs.lemmas.Option.{none-some}
 use Rattle.plan_sheet.specs.declared.refusal.Refusal.{Refusal}
 use Rattle.columns.specs.Number.{spaces, right, unpadded, read_on, plain, number}
 use Rattle.plan.specs.Members.{members, members_from}
@@ -28,7 +29,7 @@ Under n (t ∷ ts) = (t ≤ n) × Under n ts
 
 pub check_none : (b : Bool) (e : Refusal) (os : List (Option Refusal)) → first (check b e ∷ os) ≡ None → (b ≡ true) × (first os ≡ None)
 check_none true e os h = (refl, h)
-check_none false e os h = let z : ◌≡◌ {A = ℕ} 0 1 = cc in absurd (omega arith)
+check_none false e os h = absurd (none-some e (sym h))
 
 -- a faultless field is its entry, written
 pub field_is : (n l f : ℕ) (bytes : List ℕ) → length bytes ≡ 3 → entry_faults n l f bytes ≡ None → (bytes ≡ cell (worth bytes)) × (worth bytes ≤ n)

@@ -7,6 +7,7 @@ use Rattle.plan.specs.Shape.{Within, Rising}
 use Rattle.plan_sheet.specs.declared.refusal.Refusal.TheVariants.{Layout, Groups}
 use Rattle.plan_sheet.specs.Checks.{first, check, formed, line_fault, line_count, mask_at, above_at, Lined, heading_faults, groups_fault, fault_of, m_of, h_of}
 use Rattle.std.specs.List.{range_with_len}
+use Rattle.std.proofs.lemmas.Option.{none-some}
 use Rattle.plan_sheet.proofs.Groups.{from_next}
 
 pub above_next : (s : List ℕ) (i : ℕ) → above_at s ((i + 1) + 2) ≡ mask_at s (i + 2)
@@ -96,7 +97,7 @@ module _ (s : List ℕ) where
   -- no fault: none of the parts has one
   pub first_none : (o : Option Refusal) (os : List (Option Refusal)) → first (o ∷ os) ≡ None → (o ≡ None) × (first os ≡ None)
   first_none None os h = (refl, h)
-  first_none (Some e) os h = let z : ◌≡◌ {A = ℕ} 0 1 = cc in absurd (omega arith)
+  first_none (Some e) os h = absurd (none-some e (sym h))
 
 pub at_line : {X : Type 0} (F : List ℕ → ℕ → X) (s s' : List ℕ) (l l' : ℕ) → s ≡ s' → l ≡ l' → F s l ≡ F s' l'
 at_line F s s' l l' p q = ap (λ x. F x l) p ∙ ap (F s') q

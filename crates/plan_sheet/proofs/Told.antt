@@ -2,6 +2,7 @@
 use Rattle.std.proofs.Common.{◌≡◌, ℕ, ◌+◌, ◌-◌, ◌^◌, true, false, ◌&&◌, eqb, leb, List, map, length, take, Some, None, Option, sym, ap, ◌∙◌, subst, arith}
 use Rattle.std.specs.List.{range_with_len}
 use Rattle.std.proofs.lemmas.List.{ext_get_or, length-take-le, get_or-take}
+use Rattle.std.proofs.lemmas.Option.{none-some}
 use Rattle.plan.specs.Shape.{Shape, Valid}
 use Rattle.plan_sheet.specs.declared.refusal.Refusal.{Refusal}
 use Rattle.plan_sheet.specs.declared.refusal.Refusal.TheVariants.{Groups}
@@ -15,7 +16,7 @@ use Rattle.plan_sheet.proofs.Soundness.{sound, get_or_from}
 use Rattle.plan_sheet.proofs.Completeness.{complete, shape}
 
 pub no_plan : (s : List ℕ) (e : Refusal) → fault_of s ≡ Some e → (q : Shape) → Valid q → s ≡ written q → ⊥
-no_plan s e f q v is = let g : fault_of s ≡ None = ap fault_of is ∙ (complete q v).0 in let z : ◌≡◌ {A = ℕ} 0 1 = cc in omega arith
+no_plan s e f q v is = none-some e (sym (ap fault_of is ∙ (complete q v).0) ∙ f)
 
 -- a sheet of whole lines whose heading has no fault
 module _ (s : List ℕ) (whole : formed s ≡ true) (n h w m : ℕ) (head : Headed s n h w m) where

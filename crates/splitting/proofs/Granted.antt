@@ -1,6 +1,7 @@
 -- What is known of a key once no check refuses it.
 use Rattle.std.proofs.Common.{◌≡◌, ℕ, ◌*◌, ◌^◌, ◌<◌, List, Some, None, Option, sym, refl, ap, ◌∙◌, arith}
 use Rattle.std.specs.Option.{option_map}
+use Rattle.std.proofs.lemmas.Option.{none-some, same_Some}
 use Rattle.plan.specs.declared.group.Group.{Group}
 use Rattle.plan.specs.declared.plans.Plan.{Plan}
 use Rattle.plan.specs.Groups.{group_of, owning}
@@ -17,12 +18,9 @@ use Rattle.splitting.proofs.Undone.{all_passed}
 one_owns : (p : Shape) (key : ℕ) (group : Group) → Some group ≡ owning p key → (g : ℕ) × (owner p key ≡ Some g) × (group ≡ group_of p g)
 one_owns p key group e = from (owner p key) e
   where
-    taken : (x y : Group) → Some x ≡ Some y → x ≡ y
-    taken x y s = cc
-
     from : (o : Option ℕ) → Some group ≡ option_map (group_of p) o → (g : ℕ) × (o ≡ Some g) × (group ≡ group_of p g)
-    from None h = let z : ◌≡◌ {A = ℕ} 0 1 = cc in absurd (omega arith)
-    from (Some g) h = (g, refl, taken group (group_of p g) h)
+    from None h = absurd (none-some group (sym h))
+    from (Some g) h = (g, refl, same_Some group (group_of p g) h)
 
 pub record Granted (plan : Plan) (key n : ℕ) (group : Group) : Type 0 where
   pub g : ℕ
@@ -37,11 +35,10 @@ granted plan sources key n group none owned =
     let found = one_owns p key group (sym owned) in
     let all = all_passed p sources key n none in
     let r = plan_ranges plan in
-    let taken : (a b : ℕ) → Some a ≡ Some b → a ≡ b = λ a b h. cc in
     record {
       g = found.0;
       owns = found.1;
       is = found.2;
-      long = all.long ∙ ap (λ x. 32 * rows_of_group p x) (taken all.g found.0 (sym all.owns ∙ found.1));
+      long = all.long ∙ ap (λ x. 32 * rows_of_group p x) (same_Some all.g found.0 (sym all.owns ∙ found.1));
       small = omega (arith, r.inside found.0 key (r.owner_owns found.0 key found.1), r.rest);
     }

@@ -1,6 +1,7 @@
 -- Splitting, and splitting again.
 use Rattle.std.proofs.Common.{◌≡◌, ℕ, ◌*◌, ◌<◌, Bool, true, false, eqb, List, [], ◌∷◌, ◌++◌, length, Some, None, Ok, Err, Option, Result, sym, refl, ap, ◌∙◌, arith}
 use Rattle.std.proofs.lemmas.Bool.{eqb-true}
+use Rattle.std.proofs.lemmas.Option.{none-some, same_Some}
 use Rattle.rows.specs.Bytes.{row_at, rows, xored}
 use Rattle.rows.proofs.Rows.{rows_same, rows_whole, row_of_all, length_rows, length_part}
 use Rattle.rows.proofs.Added.{sums}
@@ -10,7 +11,7 @@ use Rattle.layout.specs.Table.{rows_of_group}
 use Rattle.pads.specs.declared.label.Label.{Label}
 use Rattle.pads.specs.Source.{Source}
 use Rattle.splitting.specs.declared.refusal.Refusal.{Refusal}
-use Rattle.splitting.specs.declared.refusal.Refusal.TheVariants.{Sources, SameChecks, Buffer, NotHeld}
+use Rattle.splitting.specs.declared.refusal.Refusal.TheVariants.{Sources, SameChecks, Undealt, Buffer, NotHeld}
 use Rattle.pads.specs.Labelled.{label_at}
 use Rattle.splitting.specs.Sources.{source_of, distinct, all_hold, padded}
 use Rattle.splitting.specs.Split.{unless, members_of, of_owner, part_long, refusal, split_rows, split_for, answer, split}
@@ -38,7 +39,7 @@ module _ (sources : List Source) (l : Label) where
 -- ---- what passed the checks
 passed : {R : Type 0} (b : Bool) (r : R) (next : Option R) → unless b r next ≡ None → (b ≡ true) × (next ≡ None)
 passed true r next e = (refl, e)
-passed false r next e = let z : ◌≡◌ {A = ℕ} 0 1 = cc in absurd (omega arith)
+passed false r next e = absurd (none-some r (sym e))
 
 pub record Passed (p : Shape) (sources : List Source) (key n : ℕ) : Type 0 where
   pub g : ℕ
@@ -52,7 +53,7 @@ all_passed p sources key n e =
     from (owner p key) refl two.1
   where
     from : (o : Option ℕ) → owner p key ≡ o → of_owner p sources key (part_long p n) o ≡ None → Passed p sources key n
-    from None same h = let z : ◌≡◌ {A = ℕ} 0 1 = cc in absurd (omega arith)
+    from None same h = absurd (none-some Undealt (sym h))
     from (Some g) same h =
         let three = passed (eqb n (32 * rows_of_group p g)) Buffer _ h in
         record { g = g; owns = same; long = eqb-true _ _ three.0; held = (passed (all_hold sources (members_of p g) key) NotHeld None three.1).0 }
@@ -88,11 +89,8 @@ module _ (p : Shape) (sources : List Source) (key : ℕ) (sheet part : List ℕ)
     long : length sheet ≡ 32 * R
     long =
         let all = all_passed p sources key (length sheet) fine in
-        let same : all.g ≡ g = taken all.g g (sym all.owns ∙ o) in
+        let same : all.g ≡ g = same_Some all.g g (sym all.owns ∙ o) in
         all.long ∙ ap (λ x. 32 * rows_of_group p x) same
-      where
-        taken : (a b : ℕ) → Some a ≡ Some b → a ≡ b
-        taken a b h = cc
 
     is_part : part ≡ rows R row
     is_part = sym (answered (refusal p sources key (length sheet)) (split_for p sources key sheet (owner p key)) part e).1 ∙ ap (split_for p sources key sheet) o

@@ -3,6 +3,7 @@ use Rattle.std.proofs.Common.{◌≡◌, ℕ, ◌+◌, ◌-◌, ◌*◌, ◌/◌
 use Rattle.std.specs.List.{AllByRecursion as All}
 use Rattle.std.proofs.lemmas.List.{append-nil}
 use Rattle.std.proofs.lemmas.Bool.{cases_Bool, cases_lt, cond-true, eqb-true, eq-eqb, leb-false, false≢true}
+use Rattle.std.proofs.lemmas.Option.{none-some}
 use Rattle.sizes.specs.declared.height.Height.{Height}
 use Rattle.sizes.specs.Sizes.{levels}
 use Rattle.columns.specs.Number.{spaces}
@@ -40,11 +41,11 @@ distinct_more (x ∷ keys) key d n =
 
 -- what an accepted spend found
 found : (spent : Bool) (room : ℕ) → cond spent (Some Spent) (cond (eqb room 0) (Some NoRoom) None) ≡ None → (spent ≡ false) × (1 ≤ room)
-found true room e = let z : ◌≡◌ {A = ℕ} 0 1 = cc in absurd (omega arith)
+found true room e = absurd (none-some Spent (sym e))
 found false room e = (
   refl,
   ⊎_elim
-      (λ (t : eqb room 0 ≡ true). let s : Some NoRoom ≡ None = sym (cond-true (eqb room 0) (Some NoRoom) None t) ∙ e in let z : ◌≡◌ {A = ℕ} 0 1 = cc in absurd (omega arith))
+      (λ (t : eqb room 0 ≡ true). absurd (none-some NoRoom (sym e ∙ cond-true (eqb room 0) (Some NoRoom) None t)))
       (λ (f : eqb room 0 ≡ false). ⊎_elim (λ (l : room < 1). absurd (false≢true (sym f ∙ eq-eqb room 0 (omega arith)))) (λ (m : 1 ≤ room). m) (cases_lt room 1))
       (cases_Bool (eqb room 0)),
 )

@@ -4,6 +4,7 @@ use Rattle.std.specs.List.{flat_map, AllByRecursion as All}
 use Rattle.std.proofs.lemmas.List.{append-nil, length-append, take_at, get_or_at, replicate-append-replicate, nil_from_length, take_more, take_all, length-take-le, length-replicate}
 use Rattle.std.proofs.Math.Bool.{or-false}
 use Rattle.std.proofs.lemmas.Bool.{and_parts, and_from, cases_Bool, cond-true, cond-false, eq-eqb, eqb-true, ltb-true, lt-ltb, not-true, not_from_false, false≢true}
+use Rattle.std.proofs.lemmas.Option.{none-some}
 use Rattle.sizes.specs.declared.height.Height.{Height}
 use Rattle.sizes.specs.Sizes.{levels}
 use Rattle.columns.specs.Number.{spaces, right, unpadded, number, blank}
@@ -58,7 +59,7 @@ line_is line key e =
     let r : take 5 line ≡ right 5 key = n.0 ∙ ap (λ k. right k key) five in
     let whole : take 6 line ≡ take 5 line ++ get_or line 5 0 ∷ [] = take_more line 5 0 (omega arith) in
     sym (take_all 6 line (omega arith)) ∙ whole ∙ ap (λ c. take 5 line ++ c ∷ []) (eqb-true _ _ p.1) ∙ ap (λ xs. xs ++ 10 ∷ []) r)
-    (λ (f : (eqb (length line) 6 && eqb (get_or line 5 0) 10) ≡ false). let z : None ≡ Some key = sym (cond-false (eqb (length line) 6 && eqb (get_or line 5 0) 10) (number (take 5 line)) None f) ∙ e in let y : ◌≡◌ {A = ℕ} 0 1 = cc in absurd (omega arith))
+    (λ (f : (eqb (length line) 6 && eqb (get_or line 5 0) 10) ≡ false). absurd (none-some key (sym (cond-false (eqb (length line) 6 && eqb (get_or line 5 0) 10) (number (take 5 line)) None f) ∙ e)))
     (cases_Bool (eqb (length line) 6 && eqb (get_or line 5 0) 10))
 
 -- ---- lines of bytes

@@ -1,7 +1,8 @@
-use Rattle.std.proofs.Common.{◌≡◌, ℕ, ◌^◌, true, false, List, Some, None, sym, ap, ◌∙◌, ⊎_elim, arith}
+use Rattle.std.proofs.Common.{◌≡◌, ℕ, ◌^◌, true, false, List, Some, None, sym, ap, ◌∙◌, ⊎_elim}
 use Rattle.std.specs.Result.{result_err}
 use Rattle.std.proofs.lemmas.Bool.{cases_Bool, cond-true, cond-false, eq-eqb, false≢true}
 use Rattle.std.proofs.lemmas.Result.{err_from_is_err_and}
+use Rattle.std.proofs.lemmas.Option.{none-some}
 use Rattle.sizes.specs.declared.height.Height.{Height}
 use Rattle.sizes.specs.Sizes.{levels}
 use Rattle.sizes.proofs.Heights.{keys_most}
@@ -18,7 +19,7 @@ refused : (height : Height) (bytes : List ℕ) (why : Refusal) → new_fault byt
 refused height bytes why e =
     let h = levels height in
     ⊎_elim
-    (λ (w : whole_lines bytes ≡ true). let z : None ≡ Some why = sym (cond-true (whole_lines bytes) None (Some Damaged) w) ∙ e in let y : ◌≡◌ {A = ℕ} 0 1 = cc in absurd (omega arith))
+    (λ (w : whole_lines bytes ≡ true). absurd (none-some why (sym (cond-true (whole_lines bytes) None (Some Damaged) w) ∙ e)))
     (λ (w : whole_lines bytes ≡ false).
     let no : accepted h bytes ≡ false = ⊎_elim (λ (a : accepted h bytes ≡ true). absurd (false≢true (sym w ∙ eq-eqb _ _ (whole (2 ^ h) bytes (keys_most height) a)))) (λ (a : accepted h bytes ≡ false). a) (cases_Bool (accepted h bytes)) in
     cond-false (accepted h bytes) None (Some Damaged) no ∙ sym (cond-false (whole_lines bytes) None (Some Damaged) w) ∙ e)
