@@ -2,6 +2,7 @@
 ghost use Rattle.std.specs.Prelude.{◌≡◌, ◌≤◌, length};
 ghost use Rattle.std.specs.Str.{all_ascii_digits};
 ghost use Rattle.columns.specs.Number.{unpadded, number_in, blank, plain};
+ghost use Rattle.columns.specs.Laws.{Fields};
 
 // What stands behind the leading spaces.
 fn unpadded(field: &[u8]) -> &[u8]
@@ -33,8 +34,10 @@ fn plain(columns: &[u8]) -> bool
 }
 
 // The number in a field of at most nine columns, if it is one.
+#[tactic(auto, using(crate::proofs::Telling::fields))]
 pub fn number_in(field: &[u8]) -> Option<u32>
-    ensures { result ≡ number_in field.now }
+    ensures value { result ≡ number_in field.now }
+    ensures laws { Fields }
 {
     if field.len() > 9 {
         return None;
@@ -47,8 +50,10 @@ pub fn number_in(field: &[u8]) -> Option<u32>
 }
 
 // Whether a field has nothing but spaces.
+#[tactic(auto, using(crate::proofs::Telling::fields))]
 pub fn is_blank(field: &[u8]) -> bool
-    ensures { result ≡ blank field.now }
+    ensures value { result ≡ blank field.now }
+    ensures laws { Fields }
 {
     unpadded(field).is_empty()
 }

@@ -13,7 +13,7 @@ use Rattle.pads.specs.Source.{Source}
 use Rattle.splitting.specs.declared.refusal.Refusal.TheVariants.{Sources, SameChecks, Buffer, NotHeld}
 use Rattle.splitting.specs.Sources.{distinct, all_hold}
 use Rattle.splitting.specs.Split.{unless, members_of, of_owner, refusal_if, part_long, refusal}
-use Rattle.splitting.proofs.Undone.{all_passed}
+use Rattle.splitting.proofs.Fitting.{all_passed}
 use Rattle.dealer.specs.Tabled.{written_at, at_place, tabled}
 
 -- ---- what is refused

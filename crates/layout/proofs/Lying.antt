@@ -1,5 +1,5 @@
 -- Where sections and parts lie.
-use Rattle.std.proofs.Common.{◌≡◌, ℕ, zero, suc, ◌+◌, ◌-◌, ◌*◌, ◌<◌, ◌≤◌, true, false, eqb, leb, List, [], ◌∷◌, map, length, get_or, set, replicate, Some, None, Option, sym, refl, ap, ◌∙◌, subst, ⊎_elim, mul_comm, add-mul, mul-le-mul_left, mul-one, mul-add, arith}
+use Rattle.std.proofs.Common.{◌≡◌, ℕ, zero, suc, ◌+◌, ◌*◌, ◌<◌, ◌≤◌, true, false, eqb, leb, List, [], ◌∷◌, map, length, get_or, set, replicate, Some, None, Option, sym, refl, ap, ◌∙◌, subst, ⊎_elim, add-mul, mul-le-mul_left, arith}
 use Rattle.std.specs.Option.{option_map}
 use Rattle.std.proofs.lemmas.List.{get_or-set_same, get_or-set_other, length-set, length-replicate, get_or-replicate}
 use Rattle.std.specs.Iterator.{Yields, YieldsFirst}
@@ -18,15 +18,14 @@ use Rattle.plan.specs.Groups.{group_of, groups}
 use Rattle.plan.specs.Members.{members}
 use Rattle.plan.specs.View.{view}
 use Rattle.plan.specs.Shape.{Shape}
-use Rattle.plan.specs.Keys.{share, first_key, key_count, Owns, in_range, owner_from, owner}
-use Rattle.plan.specs.Laws.{Ranges}
+use Rattle.plan.specs.Keys.{share, first_key, key_count, in_range, owner_from, owner}
 use Rattle.sizes.proofs.Heights.{keys_most}
 use Rattle.plan.proofs.Found.{plan_ranges}
 use Rattle.layout.specs.declared.section.Section.{Section}
-use Rattle.layout.specs.Laws.{Places}
 use Rattle.layout.specs.Part.{part_rows}
 use Rattle.layout.proofs.Few.{part_few}
-use Rattle.layout.specs.Table.{rows_of_group, start_of, section_of, place_in, table_rows, find, by_owner, in_table}
+use Rattle.layout.proofs.Joined.{start_none, first_next, start_next}
+use Rattle.layout.specs.Table.{rows_of_group, start_of, section_of, table_rows, find, by_owner, in_table}
 
 -- a section without keys is never found
 abbrev Bare : List Section → Type 0
@@ -89,60 +88,6 @@ pub behind_less : (n : ℕ) (xs : List Section) (s : Section) → Behind n xs �
 behind_less n xs s b j d l m =
     let long : length (set xs n s) ≡ length xs = length-set xs n s in
     ap (λ x. x.count) (get_or-set_other xs n j s d (λ e. omega arith)) ∙ b j d (omega arith) (omega arith)
-
--- ---- places
-pub start_none : (p : Shape) → 0 ≡ start_of p 0
-unfolding start_of
-start_none p = refl
-
-pub first_next : (p : Shape) (n : ℕ) → first_key p (n + 1) ≡ first_key p n + key_count p n
-first_next p n = mul-add (share p) n 1 ∙ ap (λ x. share p * n + x) (mul-one (share p))
-
-pub start_next : (p : Shape) (g : ℕ) → start_of p (g + 1) ≡ start_of p g + key_count p g * rows_of_group p g
-unfolding start_of
-start_next p g = let next : g + 1 ≡ suc g = omega arith in ap (start_of p) next
-
-start_up : (p : Shape) (g k : ℕ) → g ≤ k → start_of p g ≤ start_of p k
-start_up p g zero l = let e : g ≡ 0 = omega arith in omega (arith, ap (start_of p) e)
-start_up p g (suc k) l =
-    ⊎_elim
-    (λ (m : g < suc k). let up = start_up p g k (omega arith) in let e : suc k ≡ k + 1 = omega arith in omega (arith, up, start_next p k, ap (start_of p) e))
-    (λ (m : suc k ≤ g). let e : g ≡ suc k = omega arith in omega (arith, ap (start_of p) e))
-    (cases_lt g (suc k))
-
--- some rows each: the next begins behind the last
-steps : (each a b : ℕ) → a < b → a * each + each ≤ b * each
-steps each a b l =
-    let up : each * (a + 1) ≤ each * b = mul-le-mul_left each (omega arith) in
-    omega (arith, up, mul_comm each (a + 1), mul_comm each b, add-mul a 1 each)
-
--- a part ends before the next group's begin
-within_group : (p : Shape) (g key : ℕ) → Owns p g key → place_in (section_of p g) key + rows_of_group p g ≤ start_of p (g + 1)
-within_group p g key o =
-    let up = steps (rows_of_group p g) (key - first_key p g) (key_count p g) (omega (arith, o.1, o.2)) in
-    omega (arith, up, start_next p g)
-
-pub places : (p : Shape) → Ranges p → Places p
-places p r = record {
-  apart = λ g k a b og ok l.
-      ⊎_elim
-      (λ (e : g ≡ k). apart_within k a b (subst (λ i. Owns p i a) e og) ok l (subst (λ i. place_in (section_of p i) a + rows_of_group p i ≡ place_in (section_of p k) a + rows_of_group p k) (sym e) refl))
-      (λ (ne : g ≡ k → ⊥).
-      ⊎_elim
-      (λ (m : g < k). omega (arith, within_group p g a og, start_up p (g + 1) k (omega arith)))
-      (λ (m : k ≤ g). absurd (turned g k a b ne m og ok l))
-      (cases_lt g k))
-      (cases_eq g k);
-  inside = λ g key o. omega (arith, within_group p g key o, start_up p (g + 1) (length p.masks) (omega (arith, o.0)));
-}
-  where
-    turned : (g k a b : ℕ) → (g ≡ k → ⊥) → k ≤ g → Owns p g a → Owns p k b → a < b → ⊥
-    turned g k a b ne m og ok l = let less = r.rising k g b a (⊎_elim (λ (s : k < g). s) (λ (s : g ≤ k). absurd (ne (omega arith))) (cases_lt k g)) ok og in omega arith
-
-    apart_within : {x : ℕ} (k a b : ℕ) → Owns p k a → Owns p k b → a < b → x ≡ place_in (section_of p k) a + rows_of_group p k → x ≤ place_in (section_of p k) b
-    apart_within k a b oa ob l e =
-        let up = steps (rows_of_group p k) (a - first_key p k) (b - first_key p k) (omega (arith, oa.1, ob.1)) in
-        omega (arith, up, e)
 
 -- each group has few rows, and so has the table
 pub start_few : (plan : Plan) (n : ℕ) → start_of (view plan) n ≤ first_key (view plan) n * 8723

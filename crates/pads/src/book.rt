@@ -34,6 +34,7 @@ pub struct Book<'a> {
 }
 
 impl<'a> Book<'a> {
+    #[tactic(auto, using(crate::proofs::Booked::booking))]
     pub fn new(
         bytes: &'a [u8],
         first: u32,

@@ -12,7 +12,7 @@ use Rattle.plan.proofs.Found.{plan_ranges}
 use Rattle.layout.specs.Table.{rows_of_group}
 use Rattle.pads.specs.Source.{Source}
 use Rattle.splitting.specs.Split.{refusal}
-use Rattle.splitting.proofs.Undone.{all_passed}
+use Rattle.splitting.proofs.Fitting.{all_passed}
 
 -- the group that was looked up, and its number
 one_owns : (p : Shape) (key : ℕ) (group : Group) → Some group ≡ owning p key → (g : ℕ) × (owner p key ≡ Some g) × (group ≡ group_of p g)

@@ -1,4 +1,5 @@
 pub mod Blocks
 pub mod Listed
+pub mod Fitting
 pub mod Undone
 pub mod Granted

@@ -1,7 +1,6 @@
 -- Splitting, and splitting again.
-use Rattle.std.proofs.Common.{◌≡◌, ℕ, ◌*◌, ◌<◌, Bool, true, false, eqb, List, [], ◌∷◌, ◌++◌, length, Some, None, Ok, Err, Option, Result, sym, refl, ap, ◌∙◌, arith}
-use Rattle.std.proofs.lemmas.Bool.{eqb-true}
-use Rattle.std.proofs.lemmas.Option.{none-some, same_Some}
+use Rattle.std.proofs.Common.{◌≡◌, ℕ, ◌*◌, ◌<◌, List, [], ◌∷◌, ◌++◌, length, Some, None, Ok, Err, Option, Result, sym, refl, ap, ◌∙◌, arith}
+use Rattle.std.proofs.lemmas.Option.{same_Some}
 use Rattle.rows.specs.Bytes.{row_at, rows, xored}
 use Rattle.rows.proofs.Rows.{rows_same, rows_whole, row_of_all, length_rows, length_part}
 use Rattle.rows.proofs.Added.{sums}
@@ -11,13 +10,13 @@ use Rattle.layout.specs.Table.{rows_of_group}
 use Rattle.pads.specs.declared.label.Label.{Label}
 use Rattle.pads.specs.Source.{Source}
 use Rattle.splitting.specs.declared.refusal.Refusal.{Refusal}
-use Rattle.splitting.specs.declared.refusal.Refusal.TheVariants.{Sources, SameChecks, Undealt, Buffer, NotHeld}
 use Rattle.pads.specs.Labelled.{label_at}
-use Rattle.splitting.specs.Sources.{source_of, distinct, all_hold, padded}
-use Rattle.splitting.specs.Split.{unless, members_of, of_owner, part_long, refusal, split_rows, split_for, answer, split}
+use Rattle.splitting.specs.Sources.{source_of, padded}
+use Rattle.splitting.specs.Split.{members_of, refusal, split_rows, split_for, answer, split}
 use Rattle.splitting.specs.Laws.{Splitting}
 use Rattle.splitting.proofs.Listed.{length_padded}
 use Rattle.pads.proofs.Booked.{labelling}
+use Rattle.splitting.proofs.Fitting.{all_passed, fits, no_refusal}
 
 -- ---- pads
 module _ (sources : List Source) (l : Label) where
@@ -36,28 +35,12 @@ module _ (sources : List Source) (l : Label) where
   anywhere (s ∷ ss) us t row =
       anywhere ss us t (xored row ((source_of sources s).pad l)) ∙ ap (padded sources (ss ++ us) l) (sums.order row ((source_of sources s).pad l) ((source_of sources t).pad l))
 
--- ---- what passed the checks
-passed : {R : Type 0} (b : Bool) (r : R) (next : Option R) → unless b r next ≡ None → (b ≡ true) × (next ≡ None)
-passed true r next e = (refl, e)
-passed false r next e = absurd (none-some r (sym e))
+  each : (ss us : List ℕ) (t : ℕ) (row : List ℕ) → xored (padded sources (ss ++ t ∷ us) l row) ((source_of sources t).pad l) ≡ padded sources (ss ++ us) l row
+  each ss us t row =
+      let x = (source_of sources t).pad l in
+      ap (λ r. xored r x) (anywhere ss us t row) ∙ later (ss ++ us) (xored row x) x ∙ ap (padded sources (ss ++ us) l) (sums.back row x)
 
-pub record Passed (p : Shape) (sources : List Source) (key n : ℕ) : Type 0 where
-  pub g : ℕ
-  pub owns : owner p key ≡ Some g
-  pub long : n ≡ 32 * rows_of_group p g
-  pub held : all_hold sources (members_of p g) key ≡ true
-
-pub all_passed : (p : Shape) (sources : List Source) (key n : ℕ) → refusal p sources key n ≡ None → Passed p sources key n
-all_passed p sources key n e =
-    let two = passed (distinct sources) SameChecks (of_owner p sources key (part_long p n) (owner p key)) (passed (eqb (length sources) p.trustees) Sources _ e).1 in
-    from (owner p key) refl two.1
-  where
-    from : (o : Option ℕ) → owner p key ≡ o → of_owner p sources key (part_long p n) o ≡ None → Passed p sources key n
-    from None same h = absurd (none-some Undealt (sym h))
-    from (Some g) same h =
-        let three = passed (eqb n (32 * rows_of_group p g)) Buffer _ h in
-        record { g = g; owns = same; long = eqb-true _ _ three.0; held = (passed (all_hold sources (members_of p g) key) NotHeld None three.1).0 }
-
+-- ---- refused or accepted
 pub refused : (p : Shape) (sources : List Source) (key : ℕ) (sheet : List ℕ) (e : Refusal) → refusal p sources key (length sheet) ≡ Some e → split p sources key sheet ≡ Err e
 refused p sources key sheet e h = ap (λ r. answer r (split_for p sources key sheet (owner p key))) h
 
@@ -101,8 +84,11 @@ module _ (p : Shape) (sources : List Source) (key : ℕ) (sheet part : List ℕ)
     split_long : length part ≡ 32 * R
     split_long = ap length is_part ∙ length_rows row R row_long
 
+    hidden : (n : ℕ) → n < R → row_at n part ≡ row n
+    hidden n l = ap (row_at n) is_part ∙ row_of_all row R n row_long l
+
     row_back : (n : ℕ) → n < R → padded sources (members_of p g) (label n) (row_at n part) ≡ row_at n sheet
-    row_back n l = ap (λ x. padded sources (members_of p g) (label n) (row_at n x)) is_part ∙ ap (padded sources (members_of p g) (label n)) (row_of_all row R n row_long l) ∙ off sources (label n) (members_of p g) (row_at n sheet)
+    row_back n l = ap (padded sources (members_of p g) (label n)) (hidden n l) ∙ off sources (label n) (members_of p g) (row_at n sheet)
 
     again : split p sources key part ≡ Ok sheet
     again =
@@ -114,9 +100,16 @@ module _ (p : Shape) (sources : List Source) (key : ℕ) (sheet part : List ℕ)
 
 pub splitting : Splitting
 splitting = record {
+  fits = λ p sources key sheet part e. fits p sources key (length sheet) (fine p sources key sheet part e);
+  splits = λ p sources key sheet f.
+      let none = no_refusal p sources key (length sheet) f in
+      (split_rows p sources f.g key sheet, accepted p sources key f.g sheet none f.owns);
   twice = twice;
+  none = λ sources l row. refl;
+  each = λ sources ss us t l row. each sources l ss us t row;
   off = λ sources ts l row. off sources l ts row;
   anywhere = λ sources ss us t l row. anywhere sources l ss us t row;
+  hidden = λ p sources key g sheet part e o n l. hidden p sources key sheet part e g o n l;
   rows_back = λ p sources key g sheet part e o n l. row_back p sources key sheet part e g o n l;
   labels = labelling;
 }

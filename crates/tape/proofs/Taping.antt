@@ -8,7 +8,8 @@ use Rattle.std.proofs.lemmas.Option.{none-some}
 use Rattle.sizes.specs.declared.height.Height.{Height}
 use Rattle.sizes.specs.Sizes.{levels}
 use Rattle.columns.specs.Number.{spaces, right, unpadded, number, blank}
-use Rattle.columns.proofs.Text.{padded, number_is, number_right, length_right}
+use Rattle.columns.proofs.Telling.{spaces_are}
+use Rattle.columns.proofs.Text.{number_is, number_right, length_right}
 use Rattle.sizes.proofs.Heights.{keys_most}
 use Rattle.tape.specs.Lines.{lines, line_of, taped, line_key, unused, is_key, lists, blanks, all_unused, fresh_key, sound, spent_on, flat}
 use Rattle.tape.specs.Tapes.{accepted}
@@ -26,13 +27,6 @@ key_of_line key s =
     let five = length_right 5 key 5 (omega arith) (omega arith) (omega arith) (omega arith) in
     let six : (eqb (length (line_of key)) 6 && eqb (get_or (line_of key) 5 0) 10) ≡ true = and_from (eqb (length (line_of key)) 6) (eqb (get_or (line_of key) 5 0) 10) (eq-eqb _ _ (length_line key s)) (eq-eqb _ _ (get_or_at (right 5 key) 10 [] 0 5 five)) in
     cond-true (eqb (length (line_of key)) 6 && eqb (get_or (line_of key) 5 0) 10) (number (take 5 (line_of key))) None six ∙ ap number (take_at (right 5 key) (10 ∷ []) 5 five) ∙ number_right 5 key (omega arith)
-
--- a blank text is spaces
-spaces_are : (xs : List ℕ) → blank xs ≡ true → xs ≡ spaces (length xs)
-spaces_are xs e =
-    let none : unpadded xs ≡ [] = nil_from_length (unpadded xs) (eqb-true _ _ e) in
-    let all : length xs - length (unpadded xs) ≡ length xs = omega (arith, ap length none) in
-    (padded xs).1 ∙ ap (λ k. spaces k ++ unpadded xs) all ∙ ap (λ ys. spaces (length xs) ++ ys) none ∙ append-nil (spaces (length xs))
 
 pub unused_is : (line : List ℕ) → unused line ≡ true → line ≡ spaces 6
 unused_is line e = let p = and_parts (eqb (length line) 6) (blank line) e in spaces_are line p.1 ∙ ap spaces (eqb-true _ _ p.0)

@@ -7,11 +7,12 @@ use Rattle.plan.specs.Keys.{owner}
 use Rattle.plan.specs.View.{view}
 use Rattle.layout.specs.Table.{part_size}
 use Rattle.splitting.specs.Split.{refusal, split_for}
-use Rattle.splitting.proofs.Undone.{all_passed, answered}
+use Rattle.splitting.proofs.Fitting.{all_passed}
+use Rattle.splitting.proofs.Undone.{answered}
 use Rattle.dealer.specs.Refusals.{handed_on}
 use Rattle.dealer.specs.Tabled.{tabled}
 use Rattle.plan.proofs.Found.{plan_ranges}
-use Rattle.layout.proofs.Lying.{places}
+use Rattle.layout.proofs.Joined.{places}
 use Rattle.dealer.proofs.Tabling.{tabling}
 use Rattle.dealer.proofs.Placing.{same_refusal, is_whole, put_in, put_back, is_tabled}
 use Rattle.dealer.proofs.dealers.Dealer.deal_part.Goals as goal

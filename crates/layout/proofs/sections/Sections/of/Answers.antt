@@ -7,7 +7,8 @@ use Rattle.plan.specs.View.{view}
 use Rattle.plan.proofs.Found.{view_groups, plan_ranges}
 use Rattle.layout.specs.declared.section.Section.{Section}
 use Rattle.layout.specs.Table.{section_of, start_of, rows_of_group}
-use Rattle.layout.proofs.Lying.{laid_none, laid_more, group_turn, groups_end, start_next, start_within, find_owner, places, group_rows}
+use Rattle.layout.proofs.Joined.{start_next, places}
+use Rattle.layout.proofs.Lying.{laid_none, laid_more, group_turn, groups_end, start_within, find_owner, group_rows}
 use Rattle.layout.proofs.sections.Sections.of.Goals as goal
 
 groups_few : (plan : Plan) → length (view plan).masks ≤ 70
