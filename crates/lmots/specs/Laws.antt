@@ -11,7 +11,7 @@ ChainCut =
     (hashed : List ℕ → List ℕ) (I : List ℕ) (q i : ℕ) (x : List ℕ) (d e : ℕ) → d ≤ e →
     chain hashed I q i d (e - d) (chain hashed I q i 0 d x) ≡ chain hashed I q i 0 e x
 
--- of two digests, some digit of the first is larger and some is smaller, those of the checksum included
+-- of two different digests, some digit of the first is larger and some is smaller, those of the checksum included
 abbrev pub ChecksumGuards : Type 0
 ChecksumGuards =
     (width : Width) (Q R : List ℕ) → length Q ≡ 32 → length R ≡ 32 →

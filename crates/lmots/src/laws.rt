@@ -6,7 +6,7 @@ pub fn chain_cut()
     ensures { ChainCut }
 {}
 
-// Of two digests each has some larger digit.
+// Of two different digests each has some larger digit.
 pub fn checksum_guards()
     ensures { ChecksumGuards }
 {}

@@ -86,7 +86,7 @@ module _ (hashed : List ℕ → List ℕ) (ots tree : ℕ) where
   signature_with h w I seed q C message =
       layout ots tree h w q C (rows (p w) (λ i. X hashed I seed q i (digit w (digest hashed I q C message) i))) (rows h (path_of hashed I seed h w q))
 
-  -- and under the prefix of Appendix A
+  -- and under the prefix that this ring makes of the seed by the formula of Appendix A, where the RFC leaves it free
   abbrev pub signature : ℕ → ℕ → List ℕ → List ℕ → ℕ → List ℕ → List ℕ
   signature h w I seed q message = signature_with h w I seed q (prefix hashed I seed q) message
 

@@ -9,23 +9,9 @@ use crate::codes::{ots_code, tree_code};
 use crate::kept::Tree;
 use crate::refusal::Refusal;
 use hash::Hash;
-use rows::{Identifier, Row, Seed, put};
+use rows::{Row, put};
 
 impl<H: Hash> Tree<H> {
-    // The identifier that the tree was grown from.
-    pub fn identifier(&self) -> Identifier
-        ensures { result ≡ self.now.origin.id }
-    {
-        self.origin.id
-    }
-
-    // The seed that the tree was grown from.
-    pub fn seed(&self) -> Seed
-        ensures { result ≡ self.now.origin.seed }
-    {
-        self.origin.seed
-    }
-
     // The root's 56 bytes.
     pub fn root(&self) -> [u8; 56]
         ensures { result ≡ grown_root H.Hash.hashed H.Hash.ots H.Hash.tree self.now }

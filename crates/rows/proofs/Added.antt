@@ -40,9 +40,3 @@ get_or_xored [] b j d l e = absurd (omega arith)
 get_or_xored (x ∷ xs) [] j d l e = absurd (omega arith)
 get_or_xored (x ∷ xs) (y ∷ ys) zero d l e = refl
 get_or_xored (x ∷ xs) (y ∷ ys) (suc j) d l e = get_or_xored xs ys j d (omega arith) (omega arith)
-
--- a byte that is there, whatever stands for a missing one
-pub get_d_any : (xs : List ℕ) (i d e : ℕ) → i < length xs → get_or xs i d ≡ get_or xs i e
-get_d_any [] i d e l = absurd (omega arith)
-get_d_any (x ∷ xs) zero d e l = refl
-get_d_any (x ∷ xs) (suc i) d e l = get_d_any xs i d e (omega arith)

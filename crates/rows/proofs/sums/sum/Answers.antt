@@ -3,7 +3,8 @@ use Rattle.std.proofs.lemmas.List.{same_lists}
 use lib.Bits.{bit_xor}
 use Rattle.rows.specs.Bytes.{xored}
 use Rattle.arrays.proofs.Made.{made}
-use Rattle.rows.proofs.Added.{get_d_any, get_or_xored, length_xored, sums}
+use Rattle.std.proofs.lemmas.List.{get_or_default}
+use Rattle.rows.proofs.Added.{get_or_xored, length_xored, sums}
 use Rattle.rows.proofs.sums.sum.Goals as goal
 
 pub returns : goal.returns
@@ -18,6 +19,6 @@ returns c =
       value = same_lists ys (xored a b) (ly ∙ sym (length_xored a b ∙ la))
           (λ j d m.
           made _ 32 (λ k v. v ≡ bit_xor (get_or a k 0) (get_or b k 0)) _ (λ k r q l called. search rules) ys c.from_fn.ensures.items j d (omega arith)
-          ∙ ap₂ bit_xor (get_d_any a j 0 d (omega arith)) (get_d_any b j 0 d (omega arith)) ∙ sym (get_or_xored a b j d (omega arith) (lb ∙ sym la)));
+          ∙ ap₂ bit_xor (get_or_default a j 0 d (omega arith)) (get_or_default b j 0 d (omega arith)) ∙ sym (get_or_xored a b j d (omega arith) (lb ∙ sym la)));
       laws = sums;
     }
