@@ -24,7 +24,6 @@ pub struct Table<'a> {
 
 impl<'a> Table<'a> {
     // The table of a plan on these bytes, which may be cut anywhere, or be too many.
-    #[tactic(auto, using(crate::proofs::Lent::lending, plan::proofs::Found::plan_ranges))]
     pub fn new(bytes: &'a [u8], plan: &Plan) -> Table<'a>
         ensures bytes { result.bytes.now ≡ bytes.now }
         ensures owners { (key : ℕ) → find result.sections.all key ≡ option_map (section_of (view plan.now)) (owner (view plan.now) key) }

@@ -1,17 +1,18 @@
 // The sections of a plan's public table.
-ghost use Rattle.std.specs.Prelude.{◌≡◌, ℕ};
+ghost use Rattle.std.specs.Prelude.{◌≡◌, ℕ, ◌<◌, ◌≤◌, length, slice_index_or};
 ghost use Rattle.std.specs.Option.{option_map};
 ghost use Rattle.plan.specs.Keys.{owner};
 ghost use Rattle.plan.specs.View.{view};
 ghost use Rattle.layout.specs.Table.{find, section_of};
 ghost use Rattle.layout.specs.Laws.{Places};
+ghost use Rattle.layout.specs.declared.section.Section.{Section as Kept};
 
 use crate::part::part_rows;
 use crate::section::Section;
 use plan::Plan;
 
-// Those of the groups stand in front, and the others have no key: a plan has at most 70 groups, and no memory is asked for. They are plain
-// numbers, so that a table which holds them fits anywhere.
+// The sections of the groups stand in front, and the others have no key: a plan has at most 70 groups, and no memory is asked for. They are plain
+// numbers and keep no plan, so that whatever holds them may stand in an enum.
 #[derive(Clone, Copy)]
 pub struct Sections {
     pub all: [Section; 70],
@@ -20,6 +21,8 @@ pub struct Sections {
 impl Sections {
     // The sections of a plan: each key has that of its owner, and parts lie in the table by rising key, none over another.
     pub fn of(plan: &Plan) -> Sections
+        ensures groups { (g : ℕ) (none : Kept) → g < length (view plan.now).masks → slice_index_or result.all g none ≡ section_of (view plan.now) g }
+        ensures others { (g : ℕ) (none : Kept) → length (view plan.now).masks ≤ g → g < 70 → (slice_index_or result.all g none).count ≡ 0 }
         ensures owners { (key : ℕ) → find result.all key ≡ option_map (section_of (view plan.now)) (owner (view plan.now) key) }
         ensures places { Places (view plan.now) }
     {

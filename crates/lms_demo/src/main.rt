@@ -1,7 +1,7 @@
 // Grows a small tree, signs a message with one of its keys, and shows the verdicts on the signature and on an altered one.
 #![tactic(auto)]
 
-use lms::{Tree, verify};
+use lms::{Tree, scheme, verify};
 use rows::{Identifier, Origin, Seed};
 use sha256::Hasher;
 use sizes::{Height, Width};
@@ -18,7 +18,8 @@ fn main(rt: HostRuntime) -> io::Result<()> {
     println!(rt; "root {root:?}")?;
 
     let message = b"the bridge opens at noon";
-    let mut signature = vec![in heap; 0u8; 1292]?;
+    let size = scheme::signature_length(Height::Five, Width::Eight);
+    let mut signature = vec![in heap; 0u8; size]?;
     let signed = tree.sign(7, message, &mut signature).is_ok();
     println!(rt; "signed {signed}")?;
     let verdict = verify::<Hasher>(&root, message, &signature);

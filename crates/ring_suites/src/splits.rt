@@ -82,7 +82,11 @@ impl Splits {
             .message
             .as_ref()
             .context("a signature stands before its message")?;
-        let key = self.dealt.as_ref().map_or(0, |dealt| dealt.0);
+        let dealt = self
+            .dealt
+            .as_ref()
+            .context("a signature stands before its key")?;
+        let key = dealt.0;
         let wanted = block.bytes("signature")?;
         let signature = over_hash!(setting.hash, sign(setting, key, message, wanted.len()))?;
         Ok(signature.as_slice() == wanted.as_slice())

@@ -1,13 +1,13 @@
 -- Tapes, their lines, and what they list.
-use Rattle.std.proofs.Common.{◌≡◌, ℕ, zero, suc, ◌+◌, ◌-◌, ◌*◌, ◌/◌, ◌%◌, ◌^◌, ◌<◌, ◌≤◌, Bool, true, false, cond, not, ◌&&◌, ◌||◌, eqb, ltb, leb, List, [], ◌∷◌, ◌++◌, map, length, get_or, take, replicate, Some, None, Option, sym, refl, ap, ◌∙◌, ⊎_elim, append_assoc, arith}
+use Rattle.std.proofs.Common.{◌≡◌, ℕ, zero, suc, ◌+◌, ◌*◌, ◌/◌, ◌%◌, ◌^◌, ◌<◌, ◌≤◌, Bool, true, false, cond, not, ◌&&◌, ◌||◌, eqb, ltb, leb, List, [], ◌∷◌, ◌++◌, map, length, get_or, take, replicate, Some, None, Option, sym, refl, ap, ◌∙◌, ⊎_elim, append_assoc, arith}
 use Rattle.std.specs.List.{flat_map, AllByRecursion as All}
-use Rattle.std.proofs.lemmas.List.{append-nil, length-append, take_at, get_or_at, replicate-append-replicate, nil_from_length, take_more, take_all, length-take-le, length-replicate}
+use Rattle.std.proofs.lemmas.List.{length-append, take_at, get_or_at, replicate-append-replicate, take_more, take_all, length-take-le, length-replicate}
 use Rattle.std.proofs.Math.Bool.{or-false}
 use Rattle.std.proofs.lemmas.Bool.{and_parts, and_from, cases_Bool, cond-true, cond-false, eq-eqb, eqb-true, ltb-true, lt-ltb, not-true, not_from_false, false≢true}
 use Rattle.std.proofs.lemmas.Option.{none-some}
 use Rattle.sizes.specs.declared.height.Height.{Height}
 use Rattle.sizes.specs.Sizes.{levels}
-use Rattle.columns.specs.Number.{spaces, right, unpadded, number, blank}
+use Rattle.columns.specs.Number.{spaces, right, number, blank}
 use Rattle.columns.proofs.Telling.{spaces_are}
 use Rattle.columns.proofs.Text.{number_is, number_right, length_right}
 use Rattle.sizes.proofs.Heights.{keys_most}

@@ -2,7 +2,7 @@
 use anyhow::{Context, ensure};
 use either::{Either, Left, Right, for_both};
 use hash::Hash;
-use lms::{Tree, scheme, verify};
+use lms::{Refusal, Tree, scheme, verify};
 use rows::{Identifier, Origin, Seed};
 use sha256::Hasher as Sha256;
 use shake256::Hasher as Shake256;
@@ -69,17 +69,19 @@ fn accepts<H: Hash>(tree: &Tree<H>, message: &[u8], signature: &[u8]) -> bool {
     verify::<H>(&tree.root(), message, signature)
 }
 
-// Whether a tree signs as a block says; a message over the bound it must refuse, and the verdict on what is given is then no.
+// Whether a tree signs as a block says; a message over the bound it must refuse as such, and the verdict on what is given is then no.
 fn signs(tree: &AnyTree, block: &Block) -> anyhow::Result<bool> {
     let message = block.message()?;
     let wanted = block.bytes("signature")?;
     let expected = block.text("verdict") != Some("no");
     let key = block.number("key")?;
     let mut signature = vec![in block.heap(); 0u8; wanted.len()]?;
-    let signed = for_both!(tree, tree => tree.sign(key, &message, &mut signature).is_ok());
-    let same = signature.as_slice() == wanted.as_slice();
+    let signed = match for_both!(tree, tree => tree.sign(key, &message, &mut signature)) {
+        Ok(()) => expected && signature.as_slice() == wanted.as_slice(),
+        Err(refusal) => !expected && refusal == Refusal::Message,
+    };
     let judged = for_both!(tree, tree => accepts(tree, &message, &wanted));
-    Ok(signed == expected && judged == expected && (same || !signed))
+    Ok(signed && judged == expected)
 }
 
 impl Suite for Signatures {

@@ -64,6 +64,16 @@ loop-group-preserved c =
     let same : section ≡ section_of p n = λ i. record { first = (turn.1 i).first; count = (turn.1 i).count; rows = rows i; start = c.loop-group.invariant.at i } in
     laid_more p n g.number _ c.loop-group.all c.loop-group.start section c.loop-group.invariant (ap (λ (x : Group). x.number) turn.1) (length-append gs (g ∷ [])) (omega (arith, turn.0, groups_few plan)) same
 
+pub returns-clause-groups : goal.returns-clause-groups
+returns-clause-groups c = λ g none l.
+    let all = groups_end (view c.args.plan.now) _ (c.into_iter-group-iterator.ensures.into_iter_gives ∙ c.iter-group-items.ensures) c.loop-group.yielded c.loop-group.group-iterator c.loop-group.yielded_by c.next.result c.next.new.self c.in-None.is c.next.ensures.steps in
+    c.loop-group.invariant.front g none (omega (arith, all, l))
+
+pub returns-clause-others : goal.returns-clause-others
+returns-clause-others c = λ g none low high.
+    let all = groups_end (view c.args.plan.now) _ (c.into_iter-group-iterator.ensures.into_iter_gives ∙ c.iter-group-items.ensures) c.loop-group.yielded c.loop-group.group-iterator c.loop-group.yielded_by c.next.result c.next.new.self c.in-None.is c.next.ensures.steps in
+    c.loop-group.invariant.behind g none (omega (arith, all, low)) (omega (arith, high, c.loop-group.invariant.long))
+
 pub returns-clause-owners : goal.returns-clause-owners
 returns-clause-owners c = λ key.
     let plan = c.args.plan.now in
