@@ -1,3 +1,4 @@
 pub mod Laying
 pub mod Placing
 pub mod Tabling
+pub mod Contents

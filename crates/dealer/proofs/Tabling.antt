@@ -1,7 +1,9 @@
 -- Parts in the table.
-use Rattle.std.proofs.Common.{◌≡◌, ℕ, ◌+◌, ◌-◌, ◌*◌, ◌<◌, ◌≤◌, List, ◌++◌, length, take, drop, Some, ap, ◌∙◌, ⊎_elim, append_assoc, arith, length-append, length-drop}
+use Rattle.std.proofs.Common.{◌≡◌, ℕ, ◌+◌, ◌-◌, ◌*◌, ◌<◌, ◌≤◌, List, [], ◌∷◌, ◌++◌, length, take, drop, Some, None, Option, refl, ap, ◌∙◌, subst, ⊎_elim, append_assoc, arith, length-append, length-drop, All, Contains}
 use Rattle.std.proofs.lemmas.List.{take-take, take-append-le, drop-append-le, drop-drop, drop-take, length-take-le}
-use Rattle.std.proofs.lemmas.Bool.{cases_lt}
+use Rattle.std.proofs.lemmas.List.Elements.{All-head, All-tail}
+use Rattle.std.proofs.lemmas.Map.Made.{Contains-tail}
+use Rattle.std.proofs.lemmas.Bool.{cases_lt, cases_eq}
 use Rattle.rows.specs.Bytes.{part, row_at}
 use Rattle.rows.proofs.Rows.{part_behind}
 use Rattle.plan.specs.Shape.{Shape}
@@ -9,10 +11,10 @@ use Rattle.plan.specs.Keys.{owner}
 use Rattle.plan.specs.Laws.{Ranges}
 use Rattle.layout.specs.Laws.{Places}
 use Rattle.layout.specs.Table.{rows_of_group, table_rows, section_of, place_in}
-use Rattle.dealer.specs.Tabled.{written_at, at_place, tabled}
+use Rattle.dealer.specs.Tabled.{written_at, at_place, tabled, dealt_all}
 use Rattle.dealer.specs.Laws.{Tabling}
 
-in_front : (x rest : List ℕ) (m n : ℕ) → m + n ≤ length x → part m n (x ++ rest) ≡ part m n x
+pub in_front : (x rest : List ℕ) (m n : ℕ) → m + n ≤ length x → part m n (x ++ rest) ≡ part m n x
 in_front x rest m n l = ap (take n) (drop-append-le m x rest (omega arith)) ∙ take-append-le n (drop m x) rest (omega (arith, length-drop m x))
 
 in_take : (t : List ℕ) (a m n : ℕ) → m + n ≤ a → part m n (take a t) ≡ part m n t
@@ -60,23 +62,87 @@ module _ (p : Shape) (r : Ranges p) (s : Places p) where
   room : (g key : ℕ) (bytes table : List ℕ) → owner p key ≡ Some g → length table ≡ 32 * table_rows p → length bytes ≡ 32 * rows_of_group p g → 32 * place_in (section_of p g) key + length bytes ≤ length table
   room g key bytes table o lt lb = let i = s.inside g key (r.owner_owns g key o) in omega (arith, i, lt, lb)
 
-  pub tabling : Tabling p
-  tabling = record {
-    own = λ g key bytes table o lt lb n l.
-        let at = place_in (section_of p g) key in
-        let e : 32 * (at + n) ≡ 32 * at + 32 * n = omega arith in
-        ap (row_at (at + n)) (placed g key bytes table o) ∙ ap (λ m. part m 32 (written_at (32 * at) bytes table)) e
-        ∙ there (32 * at) bytes table (room g key bytes table o lt lb) (32 * n) 32 (omega (arith, lb));
-    others = λ g k a b bytes table oa ob ne lt lb n l.
-        ap (row_at (place_in (section_of p k) b + n)) (placed g a bytes table oa)
-        ∙ ⊎_elim
-        (λ (m : a < b). let q = s.apart g k a b (r.owner_owns g a oa) (r.owner_owns k b ob) m in
-        after (32 * place_in (section_of p g) a) bytes table (room g a bytes table oa lt lb) (32 * (place_in (section_of p k) b + n)) 32 (omega (arith, q, lb)))
-        (λ (m : b ≤ a). let q = s.apart k g b a (r.owner_owns k b ob) (r.owner_owns g a oa) (less a b ne m) in
-        before (32 * place_in (section_of p g) a) bytes table (room g a bytes table oa lt lb) (32 * (place_in (section_of p k) b + n)) 32 (omega (arith, q, l)))
-        (cases_lt a b);
-    long = λ g key bytes table o lt lb. ap length (placed g key bytes table o) ∙ kept_long (32 * place_in (section_of p g) key) bytes table (room g key bytes table o lt lb) ∙ lt;
-  }
+  -- the part at its own place
+  own : (g key : ℕ) (bytes table : List ℕ) → owner p key ≡ Some g → length table ≡ 32 * table_rows p → length bytes ≡ 32 * rows_of_group p g →
+      (n : ℕ) → n < rows_of_group p g → row_at (place_in (section_of p g) key + n) (tabled p key bytes table) ≡ row_at n bytes
+  own g key bytes table o lt lb n l =
+      let at = place_in (section_of p g) key in
+      let e : 32 * (at + n) ≡ 32 * at + 32 * n = omega arith in
+      ap (row_at (at + n)) (placed g key bytes table o) ∙ ap (λ m. part m 32 (written_at (32 * at) bytes table)) e
+      ∙ there (32 * at) bytes table (room g key bytes table o lt lb) (32 * n) 32 (omega (arith, lb))
+
+  -- and the other parts, which stay
+  others : (g k a b : ℕ) (bytes table : List ℕ) → owner p a ≡ Some g → owner p b ≡ Some k → (a ≡ b → ⊥) → length table ≡ 32 * table_rows p → length bytes ≡ 32 * rows_of_group p g →
+      (n : ℕ) → n < rows_of_group p k → row_at (place_in (section_of p k) b + n) (tabled p a bytes table) ≡ row_at (place_in (section_of p k) b + n) table
+  others g k a b bytes table oa ob ne lt lb n l =
+      ap (row_at (place_in (section_of p k) b + n)) (placed g a bytes table oa)
+      ∙ ⊎_elim
+      (λ (m : a < b). let q = s.apart g k a b (r.owner_owns g a oa) (r.owner_owns k b ob) m in
+      after (32 * place_in (section_of p g) a) bytes table (room g a bytes table oa lt lb) (32 * (place_in (section_of p k) b + n)) 32 (omega (arith, q, lb)))
+      (λ (m : b ≤ a). let q = s.apart k g b a (r.owner_owns k b ob) (r.owner_owns g a oa) (less a b ne m) in
+      before (32 * place_in (section_of p g) a) bytes table (room g a bytes table oa lt lb) (32 * (place_in (section_of p k) b + n)) 32 (omega (arith, q, l)))
+      (cases_lt a b)
     where
       less : (a b : ℕ) → (a ≡ b → ⊥) → b ≤ a → b < a
       less a b ne m = ⊎_elim (λ (l : b < a). l) (λ (l : a ≤ b). absurd (ne (omega arith))) (cases_lt b a)
+
+  long : (g key : ℕ) (bytes table : List ℕ) → owner p key ≡ Some g → length table ≡ 32 * table_rows p → length bytes ≡ 32 * rows_of_group p g → length (tabled p key bytes table) ≡ 32 * table_rows p
+  long g key bytes table o lt lb = ap length (placed g key bytes table o) ∙ kept_long (32 * place_in (section_of p g) key) bytes table (room g key bytes table o lt lb) ∙ lt
+
+  -- ---- parts of many keys
+  module _ (parts : ℕ → List ℕ) where
+    abbrev Fits : ℕ → Type 0
+    Fits a = (g : ℕ) → owner p a ≡ Some g → length (parts a) ≡ 32 * rows_of_group p g
+
+    -- a key without an owner leaves the table as it was
+    long_any : (a : ℕ) (table : List ℕ) → Fits a → length table ≡ 32 * table_rows p → length (tabled p a (parts a) table) ≡ 32 * table_rows p
+    long_any a table fits lt = by (owner p a) refl
+      where
+        by : (o : Option ℕ) → owner p a ≡ o → length (tabled p a (parts a) table) ≡ 32 * table_rows p
+        by None e = ap (λ o. length (at_place p a (parts a) table o)) e ∙ lt
+        by (Some g) e = long g a (parts a) table e lt (fits g e)
+
+    module _ (g key n : ℕ) (o : owner p key ≡ Some g) (l : n < rows_of_group p g) where
+      abbrev row : List ℕ → List ℕ
+      row table = row_at (place_in (section_of p g) key + n) table
+
+      -- a row that is already what its part has stays so
+      stays : (a : ℕ) (table : List ℕ) → Fits a → length table ≡ 32 * table_rows p → row table ≡ row_at n (parts key) → row (tabled p a (parts a) table) ≡ row_at n (parts key)
+      stays a table fits lt held = by (owner p a) refl
+        where
+          by : (x : Option ℕ) → owner p a ≡ x → row (tabled p a (parts a) table) ≡ row_at n (parts key)
+          by None e = ap (λ x. row (at_place p a (parts a) table x)) e ∙ held
+          by (Some k) e =
+              ⊎_elim
+              (λ (same : a ≡ key). ap (λ b. row (tabled p b (parts b) table)) same ∙ own g key (parts key) table o lt (fits_key same) n l)
+              (λ (ne : a ≡ key → ⊥). others k g a key (parts a) table e o ne lt (fits k e) n l ∙ held)
+              (cases_eq a key)
+            where
+              fits_key : a ≡ key → length (parts key) ≡ 32 * rows_of_group p g
+              fits_key same = subst Fits same fits g o
+
+      stay : (keys table : List ℕ) → All Fits keys → length table ≡ 32 * table_rows p → row table ≡ row_at n (parts key) → row (dealt_all p parts keys table) ≡ row_at n (parts key)
+      stay [] table fit lt held = held
+      stay (a ∷ keys) table fit lt held =
+          let fits = All-head Fits a keys fit in
+          stay keys (tabled p a (parts a) table) (All-tail Fits a keys fit) (long_any a table fits lt) (stays a table fits lt held)
+
+      -- and that of a key among those dealt is so afterwards
+      order : (keys table : List ℕ) → All Fits keys → length table ≡ 32 * table_rows p → Contains keys key → row (dealt_all p parts keys table) ≡ row_at n (parts key)
+      order [] table fit lt among = absurd (omega (arith, among.1))
+      order (a ∷ keys) table fit lt among =
+          let fits = All-head Fits a keys fit in
+          let rest = All-tail Fits a keys fit in
+          ⊎_elim
+          (λ (same : a ≡ key). stay keys (tabled p a (parts a) table) rest (long_any a table fits lt)
+          (ap (λ b. row (tabled p b (parts b) table)) same ∙ own g key (parts key) table o lt (subst Fits same fits g o) n l))
+          (λ (ne : a ≡ key → ⊥). order keys (tabled p a (parts a) table) rest (long_any a table fits lt) (Contains-tail a keys key ne among))
+          (cases_eq a key)
+
+  pub tabling : Tabling p
+  tabling = record {
+    own = own;
+    others = others;
+    long = long;
+    order = λ parts keys table lt fit g key n among o l. order parts g key n o l keys table fit lt among;
+  }

@@ -1,5 +1,5 @@
 // Key sheets: all rows of a key before they are split.
-ghost use Rattle.std.specs.Prelude.{◌≡◌, ◌*◌, ◌^◌, ◌<◌, ◌++◌, map, length, MatchResult};
+ghost use Rattle.std.specs.Prelude.{◌≡◌, ℕ, ◌*◌, ◌^◌, ◌<◌, ◌++◌, map, length, OnOk, MatchResult, slice_index};
 ghost use Rattle.std.specs.Option.{option_map};
 ghost use Rattle.std.specs.Result.{result_err};
 ghost use Rattle.sizes.specs.Sizes.{levels, bits};
@@ -12,6 +12,7 @@ ghost use Rattle.splitting.specs.Split.{refusal};
 ghost use Rattle.dealer.specs.Refusals.{handed_on};
 ghost use Rattle.dealer.specs.Sheet.{check_rows, key_sheet};
 ghost use Rattle.dealer.specs.Dealt.{plan_of, i_of, seed_of};
+ghost use Rattle.dealer.specs.Laws.{Labelled};
 
 use crate::dealers::Dealer;
 use crate::refusal::Refusal;
@@ -36,7 +37,9 @@ fn check_pad<P: Pads>(sources: &[P], trustee: u8, key: u32, prefix: &Row) -> Row
 // Writes the check row of each member over all of a buffer, by number, since a proof does not know what a slice holds after `chunks_exact_mut`.
 fn write_checks<P: Pads>(sources: &[P], group: &Group, key: u32, prefix: &Row, out: &mut [u8])
     requires { length out.old ≡ 32 * length (members group.now.mask) }
-    ensures { out.new ≡ check_rows (map P.Pads.source sources.now) (members group.now.mask) key prefix.now }
+    ensures written { out.new ≡ check_rows (map P.Pads.source sources.now) (members group.now.mask) key prefix.now }
+    ensures long { (i : ℕ) → i < length (members group.now.mask) →
+        length ((source_of (map P.Pads.source sources.now) (slice_index (members group.now.mask) i)).check key prefix.now) ≡ 32 }
 {
     for (i, trustee) in group.members().enumerate() {
         let row = check_pad(sources, trustee, key, prefix);
@@ -55,10 +58,12 @@ impl<H: Hash> Dealer<H> {
     )
         requires small { key < 2 ^ levels self.now.plan.height }
         requires room { length out.old ≡ 32 * part_rows (levels self.now.plan.height) (bits self.now.plan.width) (length (members group.now.mask)) }
-        ensures { out.new ≡ prefix H.Hash.hashed (i_of self.now) (seed_of self.now) key
+        ensures written { out.new ≡ prefix H.Hash.hashed (i_of self.now) (seed_of self.now) key
             ++ check_rows (map P.Pads.source sources.now) (members group.now.mask) key (prefix H.Hash.hashed (i_of self.now) (seed_of self.now) key)
             ++ rows (levels self.now.plan.height) (path_row H.Hash.hashed (i_of self.now) (seed_of self.now) (levels self.now.plan.height) (bits self.now.plan.width) key)
             ++ all_components H.Hash.hashed (i_of self.now) (seed_of self.now) (bits self.now.plan.width) key }
+        ensures checks { (i : ℕ) → i < length (members group.now.mask) →
+            length ((source_of (map P.Pads.source sources.now) (slice_index (members group.now.mask) i)).check key (prefix H.Hash.hashed (i_of self.now) (seed_of self.now) key)) ≡ 32 }
     {
         let height = self.plan.height();
         let origin = self.tree.origin();
@@ -81,6 +86,7 @@ impl<H: Hash> Dealer<H> {
         ensures written { MatchResult result
             (λ _. out.new ≡ key_sheet H.Hash.hashed (plan_of self.now) (i_of self.now) (seed_of self.now) (map P.Pads.source sources.now) key)
             (λ _. out.new ≡ out.old) }
+        ensures labelled { OnOk result (Labelled H.Hash.hashed (plan_of self.now) (i_of self.now) (seed_of self.now) (map P.Pads.source sources.now) key out.new) }
     {
         let group = check(&self.plan, sources, key, out.len())?;
         self.write_sheet(sources, &group, key, out);

@@ -1,8 +1,9 @@
 // The public table: the parts of all dealt keys.
-ghost use Rattle.std.specs.Prelude.{◌≡◌, ◌*◌, map, length, MatchResult, nat_eq};
+ghost use Rattle.std.specs.Prelude.{◌≡◌, ℕ, ◌*◌, map, length, Some, OnOk, MatchResult, nat_eq};
 ghost use Rattle.std.specs.Option.{option_map};
 ghost use Rattle.std.specs.Result.{result_err};
-ghost use Rattle.layout.specs.Table.{table_rows};
+ghost use Rattle.plan.specs.Keys.{owner};
+ghost use Rattle.layout.specs.Table.{rows_of_group, table_rows};
 ghost use Rattle.splitting.specs.Split.{refusal_if};
 ghost use Rattle.dealer.specs.Refusals.{handed_on};
 ghost use Rattle.dealer.specs.Sheet.{key_part};
@@ -30,6 +31,8 @@ impl<H: Hash> Dealer<H> {
             (λ _. table.new ≡ tabled (plan_of self.now) key
             (key_part H.Hash.hashed (plan_of self.now) (i_of self.now) (seed_of self.now) (map P.Pads.source sources.now) key) table.old)
             (λ _. table.new ≡ table.old) }
+        ensures long { OnOk result ((g : ℕ) → owner (plan_of self.now) key ≡ Some g →
+            length (key_part H.Hash.hashed (plan_of self.now) (i_of self.now) (seed_of self.now) (map P.Pads.source sources.now) key) ≡ 32 * rows_of_group (plan_of self.now) g) }
         ensures tables { Tabling (plan_of self.now) }
     {
         // In a buffer of another length than the table's a part has no bytes, and a key sheet does not fit in none.

@@ -1,11 +1,12 @@
-use Rattle.std.proofs.Common.{◌≡◌, ◌-◌, map, length, None, sym, ap, ◌∙◌, arith}
+use Rattle.std.proofs.Common.{◌≡◌, ◌-◌, ◌*◌, map, length, None, sym, ap, ◌∙◌, arith}
 use Rattle.std.specs.Option.{option_map}
 use Rattle.std.proofs.lemmas.Result.{err_from_is_err_and}
+use Rattle.std.proofs.lemmas.Option.{same_Some}
 use Rattle.rows.specs.Bytes.{part}
 use Rattle.rows.proofs.Rows.{length_part}
 use Rattle.plan.specs.Keys.{owner}
 use Rattle.plan.specs.View.{view}
-use Rattle.layout.specs.Table.{part_size}
+use Rattle.layout.specs.Table.{rows_of_group, part_size}
 use Rattle.splitting.specs.Split.{refusal, split_for}
 use Rattle.splitting.proofs.Fitting.{all_passed}
 use Rattle.splitting.proofs.Undone.{answered}
@@ -31,6 +32,7 @@ returns-in_err-key_sheet g c =
     record {
       answer = rw (q.1, q.2) (refused.answer ∙ ap (λ n. option_map handed_on (refusal p sources c.args.key n)) (slice ∙ size) ∙ ap (option_map handed_on) (same_refusal p sources c.args.key (length table)));
       written = rw q.1 (put_back a e table c.key_sheet.new.out (ap length refused.written ∙ slice) refused.written);
+      long = rw q.1 tt;
       tables = tabling p (plan_ranges c.args.self.now.plan) (places p (plan_ranges c.args.self.now.plan));
     }
 
@@ -52,10 +54,12 @@ returns g c =
     let did = answered (refusal p sources key (length sheet)) (split_for p sources key sheet (owner p key)) bytes c.in_ok-split.ensures.answer in
     let none : refusal p sources key (part_size p key (length table)) ≡ None = ap (refusal p sources key) (sym (ls ∙ size)) ∙ did.0 in
     let all = all_passed p sources key (part_size p key (length table)) none in
+    let dealt = sym did.1 ∙ ap (λ x. split_for p sources key x (owner p key)) c.in_ok-key_sheet.ensures.written in
     record {
       answer = sym (ap (option_map handed_on) (sym (same_refusal p sources key (length table)) ∙ none));
       written = put_in a e table bytes lb ∙ is_tabled p key all.g a bytes table all.owns c.part_range-range.ensures.start (is_whole p sources key (length table) none)
-          ∙ ap (λ x. tabled p key x table) (sym did.1 ∙ ap (λ x. split_for p sources key x (owner p key)) c.in_ok-key_sheet.ensures.written);
+          ∙ ap (λ x. tabled p key x table) dealt;
+      long = λ k o. sym (ap length dealt) ∙ lb ∙ size ∙ all.long ∙ ap (λ n. 32 * rows_of_group p n) (same_Some all.g k (sym all.owns ∙ o));
       tables = tabling p (plan_ranges d.plan) (places p (plan_ranges d.plan));
     }
 

@@ -15,8 +15,8 @@ use Rattle.dealer.proofs.dealers.Dealer.write_sheet.Goals as goal
 
 -- the path's rows fit
 -- and so do those of the components
-pub returns : goal.returns
-returns g c =
+pub returns-clause-written : goal.returns-clause-written
+returns-clause-written g c =
     let d = c.args.self.now in
     let key = c.args.key in
     let out = c.args.out.now in
@@ -52,5 +52,5 @@ returns g c =
     (take-put_mid 32 (a - 32) o₁ y a (omega (arith, l₁, whole)) (omega arith))
     (take-put_mid a (b - a) o₂ z b (omega (arith, l₂, whole)) (omega arith))
     (take-put_mid b (length o₃ - b) o₃ x (length out) (omega (arith, l₃, whole)) (omega (arith, l₃, whole)))
-    ∙ (λ i. own i ++ (c.write_checks.ensures ∙ ap (check_rows sources ts key) own) i ++ (path ∙ (λ j. rows (levels (d.tall j)) (path_row H (i_of d) (seed_of d) (levels (d.tall j)) (bits (d.wide j)) key))) i
+    ∙ (λ i. own i ++ (c.write_checks.ensures.written ∙ ap (check_rows sources ts key) own) i ++ (path ∙ (λ j. rows (levels (d.tall j)) (path_row H (i_of d) (seed_of d) (levels (d.tall j)) (bits (d.wide j)) key))) i
     ++ (rest ∙ (λ j. all_components H (c.origin-origin.ensures j).id.bytes (c.origin-origin.ensures j).seed.bytes (bits (c.width-width.ensures j)) key)) i)
