@@ -1,9 +1,13 @@
 -- What a line gives a block, and what a block says of a name.
-use Rattle.std.specs.Prelude.{◌≡◌, ℕ, Bool, cond, List, [], ◌∷◌, length, replicate, codes, Some, Ok, Option, MatchOption, ◌==◌, nat_lt, slice_index}
+use Rattle.std.specs.Prelude.{◌≡◌, ⊤, ℕ, Bool, cond, List, [], ◌∷◌, length, replicate, codes, Some, Ok, Option, MatchOption, ◌==◌, nat_lt, slice_index}
 use Rattle.std.specs.List.{find, position_or_len, before_first, after_first}
 use Rattle.std.specs.Option.{option_map}
 use Rattle.std.specs.Str.{bytes_eq, trim}
+use Rattle.std.specs.Borrow.{Bor}
+use Rattle.std.specs.Iterator.{DrainsIf}
+use Rattle.std.specs.Str.Iter.{split_whitespace_rest, split_whitespace_steps}
 use Rattle.std.specs.Str.Parse.{ParsesUnsigned}
+use Rattle.std.specs.declared.str.SplitWhitespace.{SplitWhitespace}
 use Rattle.vector_files.specs.declared.blocks.Field.{Field}
 use Rattle.vector_files.specs.Hex.{decoded}
 
@@ -35,6 +39,19 @@ value_of name fields = option_map (λ field. field.value.now) (field_of name fie
 -- a value that writes a number below 2^32
 abbrev pub IsNumber : Option (List ℕ) → ℕ → Type 0
 IsNumber value n = (t : List ℕ) × (value ≡ Some t) × ParsesUnsigned {E = ℕ} 32 10 t (Ok n)
+
+-- and one that writes some, with white space between them
+abbrev pub IsWords : List ℕ → List (Bor (List ℕ)) → Type 0
+IsWords text words = (it : SplitWhitespace) × (split_whitespace_rest it ≡ text) × DrainsIf split_whitespace_steps ⊤ it words
+
+abbrev pub Write : List (Bor (List ℕ)) → List ℕ → Type 0
+Write [] [] = ⊤
+Write [] (n ∷ ns) = ⊥
+Write (w ∷ ws) [] = ⊥
+Write (w ∷ ws) (n ∷ ns) = ParsesUnsigned {E = ℕ} 32 10 w.now (Ok n) × Write ws ns
+
+abbrev pub AreNumbers : Option (List ℕ) → List ℕ → Type 0
+AreNumbers value ns = (t : List ℕ) × (ws : List (Bor (List ℕ))) × (value ≡ Some t) × IsWords t ws × Write ws ns
 
 -- and one that writes bytes
 abbrev pub IsBytes : Option (List ℕ) → List ℕ → Type 0

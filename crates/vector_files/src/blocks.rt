@@ -1,7 +1,7 @@
 // The blocks of a vector file: lines of the form `name = value`, ended by a blank line.
 ghost use Rattle.std.specs.Prelude.{◌≡◌, ℕ, ◌++◌, [], map, Some, None, IfOk, MatchResult};
 ghost use Rattle.std.specs.Option.{option_map};
-ghost use Rattle.vector_files.specs.Blocks.{said, saying, value_of, IsNumber, IsBytes, IsMessage};
+ghost use Rattle.vector_files.specs.Blocks.{said, saying, value_of, IsNumber, AreNumbers, IsBytes, IsMessage};
 
 use crate::hex;
 use anyhow::{Context, anyhow, ensure};
@@ -97,7 +97,9 @@ impl<'t> Block<'t> {
     }
 
     // Numbers with a space between each two.
-    pub fn numbers(&self, name: &str) -> anyhow::Result<Vec<u32>> {
+    pub fn numbers(&self, name: &str) -> anyhow::Result<Vec<u32>>
+        ensures { IfOk result (λ v. AreNumbers (value_of name.now self.now.fields.items) v.items) }
+    {
         let mut numbers = Vec::new(self.heap);
         for word in self.required(name)?.split_whitespace() {
             numbers.push(word.parse::<u32>()?)?;
