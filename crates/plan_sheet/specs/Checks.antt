@@ -1,5 +1,5 @@
 -- The checks of a sheet, in their order.
-use Rattle.std.specs.Prelude.{◌≡◌, ℕ, ◌+◌, ◌-◌, ◌*◌, ◌/◌, ◌%◌, ◌^◌, ◌<◌, Bool, true, cond, ◌&&◌, ◌||◌, List, [], ◌∷◌, ◌++◌, map, length, take, drop, is_some, Some, None, Option, ◌==◌, nat_le, nat_lt, slice_index}
+use Rattle.std.specs.Prelude.{◌≡◌, ℕ, ◌+◌, ◌-◌, ◌*◌, ◌/◌, ◌%◌, ◌^◌, ◌<◌, Bool, true, cond, ◌&&◌, ◌||◌, List, [], ◌∷◌, ◌++◌, map, length, take, drop, is_some, Some, None, Option, Result, MatchResult, ◌==◌, nat_le, nat_lt, slice_index}
 use Rattle.std.specs.Option.{unwrap_or}
 use Rattle.plan_sheet.specs.declared.refusal.Refusal.{Refusal}
 use Rattle.plan_sheet.specs.declared.refusal.Refusal.TheVariants.{Layout, NoNumber, OutOfRange, Members, Groups}
@@ -38,6 +38,10 @@ abbrev pub worth : List ℕ → ℕ
 worth bytes = unwrap_or (number bytes) 0
 
 -- a heading field: a number, and in its range
+-- what reading answers: a value, of which something holds, where there is no fault, and otherwise the fault
+abbrev pub Gives : {X : Type 0} → Option Refusal → (X → Type 0) → Result X Refusal → Type 0
+Gives fault Holds r = MatchResult r (λ x. (fault ≡ None) × Holds x) (λ e. fault ≡ Some e)
+
 unfoldable pub quantity_fault : (ℕ → Bool) → ℕ → ℕ → List ℕ → Option Refusal
 quantity_fault range l f bytes = first (check (is_some (number bytes)) (NoNumber l f) ∷ check (range (worth bytes)) (OutOfRange l f) ∷ [])
 

@@ -2,7 +2,7 @@
 ghost use Rattle.std.specs.Prelude.{◌≡◌, ◌+◌, ◌-◌, ◌*◌, ◌^◌, ◌<◌, ◌≤◌, true, ◌&&◌, map, length, is_some, Some, None, MatchResult, ◌==◌, nat_le, nat_lt};
 ghost use Rattle.std.specs.Option.{unwrap_or};
 ghost use Rattle.columns.specs.Number.{number, blank};
-ghost use Rattle.plan_sheet.specs.Checks.{field_at, worth, entry_faults, quantity_fault, heading_faults, Headed, n_of};
+ghost use Rattle.plan_sheet.specs.Checks.{Gives, field_at, worth, entry_faults, quantity_fault, heading_faults, Headed, n_of};
 ghost use Rattle.plan_sheet.specs.Checks.{first, line_fault, mask_at, above_at, Lined};
 ghost use Rattle.std.specs.List.{range_with_len};
 ghost use Rattle.sizes.specs.Sizes.{levels, bits};
@@ -34,7 +34,9 @@ pub(crate) struct Field<'s> {
 impl Field<'_> {
     // The number in it.
     pub(crate) fn number(&self) -> Result<u32, Refusal>
-        ensures { MatchResult result (λ v. number self.now.bytes.now ≡ Some v) (λ e. (number self.now.bytes.now ≡ None) × (e ≡ Refusal.NoNumber self.now.line self.now.field)) }
+        ensures { MatchResult result
+            (λ v. number self.now.bytes.now ≡ Some v)
+            (λ e. (number self.now.bytes.now ≡ None) × (e ≡ Refusal.NoNumber self.now.line self.now.field)) }
     {
         columns::number_in(self.bytes).ok_or(Refusal::NoNumber {
             line: self.line,
@@ -59,7 +61,8 @@ impl Field<'_> {
 
     // The quantity in it, of a heading.
     pub(crate) fn quantity<Q: Quantity>(&self) -> Result<Q, Refusal>
-        ensures { MatchResult result (λ q. (quantity_fault Q.Quantity.allowed self.now.line self.now.field self.now.bytes.now ≡ None) × (Q.Quantity.amount q ≡ worth self.now.bytes.now) × (Q.Quantity.allowed (Q.Quantity.amount q) ≡ true)) (λ e. quantity_fault Q.Quantity.allowed self.now.line self.now.field self.now.bytes.now ≡ Some e) }
+        ensures { Gives (quantity_fault Q.Quantity.allowed self.now.line self.now.field self.now.bytes.now)
+            (λ q. (Q.Quantity.amount q ≡ worth self.now.bytes.now) × (Q.Quantity.allowed (Q.Quantity.amount q) ≡ true)) result }
     {
         let number = self.number()?;
         Q::of(number).ok_or(self.out_of_range())
@@ -67,7 +70,8 @@ impl Field<'_> {
 
     // The trustee in it, or none where it is blank.
     pub(crate) fn trustee(&self, trustees: u8) -> Result<Option<u8>, Refusal>
-        ensures { MatchResult result (λ t. (entry_faults trustees self.now.line self.now.field self.now.bytes.now ≡ None) × (unwrap_or t 0 ≡ worth self.now.bytes.now) × (unwrap_or t 0 ≤ trustees) × (is_some t ≡ nat_lt 0 (unwrap_or t 0))) (λ e. entry_faults trustees self.now.line self.now.field self.now.bytes.now ≡ Some e) }
+        ensures { Gives (entry_faults trustees self.now.line self.now.field self.now.bytes.now)
+            (λ t. (unwrap_or t 0 ≡ worth self.now.bytes.now) × (unwrap_or t 0 ≤ trustees) × (is_some t ≡ nat_lt 0 (unwrap_or t 0))) result }
     {
         if self.is_blank() {
             return Ok(None);
@@ -123,7 +127,8 @@ impl<'s> Cursor<'s> {
     // The next quantity of the heading.
     pub(crate) fn quantity<Q: Quantity>(&mut self) -> Result<Q, Refusal>
         requires { self.old.field ≤ 4 }
-        ensures value { MatchResult result (λ q. (quantity_fault Q.Quantity.allowed self.old.line self.old.field (field_at 6 self.old.sheet.now self.old.line self.old.field) ≡ None) × (Q.Quantity.amount q ≡ worth (field_at 6 self.old.sheet.now self.old.line self.old.field)) × (Q.Quantity.allowed (Q.Quantity.amount q) ≡ true)) (λ e. quantity_fault Q.Quantity.allowed self.old.line self.old.field (field_at 6 self.old.sheet.now self.old.line self.old.field) ≡ Some e) }
+        ensures value { Gives (quantity_fault Q.Quantity.allowed self.old.line self.old.field (field_at 6 self.old.sheet.now self.old.line self.old.field))
+            (λ q. (Q.Quantity.amount q ≡ worth (field_at 6 self.old.sheet.now self.old.line self.old.field)) × (Q.Quantity.allowed (Q.Quantity.amount q) ≡ true)) result }
         ensures moved { (self.new.sheet.now ≡ self.old.sheet.now) × (self.new.line ≡ self.old.line) × (self.new.field ≡ self.old.field + 1) }
     {
         self.next(6).quantity()
@@ -132,7 +137,9 @@ impl<'s> Cursor<'s> {
     pub(crate) fn heading(&mut self) -> Result<Heading, Refusal>
         requires line { self.old.line ≡ 1 }
         requires field { self.old.field ≡ 1 }
-        ensures value { MatchResult result (λ h. Headed self.old.sheet.now h.trustees (levels h.height) (bits h.width) h.groups) (λ e. first (heading_faults self.old.sheet.now) ≡ Some e) }
+        ensures value { MatchResult result
+            (λ h. Headed self.old.sheet.now h.trustees (levels h.height) (bits h.width) h.groups)
+            (λ e. first (heading_faults self.old.sheet.now) ≡ Some e) }
         ensures moved { (self.new.sheet.now ≡ self.old.sheet.now) × (self.new.line ≡ self.old.line) }
     {
         let trustees: UpTo<8> = self.quantity()?;
@@ -154,7 +161,8 @@ impl Cursor<'_> {
         requires field { self.old.field ≡ 1 }
         requires trustees { (trustees ≤ 8) × (trustees ≡ n_of self.old.sheet.now) }
         requires above { above ≡ above_at self.old.sheet.now self.old.line }
-        ensures value { MatchResult result (λ m. (line_fault self.old.sheet.now self.old.line ≡ None) × (m ≡ mask_at self.old.sheet.now self.old.line) × (above < m) × (m < 2 ^ trustees)) (λ e. line_fault self.old.sheet.now self.old.line ≡ Some e) }
+        ensures value { Gives (line_fault self.old.sheet.now self.old.line)
+            (λ m. (m ≡ mask_at self.old.sheet.now self.old.line) × (above < m) × (m < 2 ^ trustees)) result }
         ensures moved { (self.new.sheet.now ≡ self.old.sheet.now) × (self.new.line ≡ self.old.line) }
     {
         let mut tally = Tally::new();
@@ -173,7 +181,9 @@ impl Cursor<'_> {
     pub(crate) fn groups(&mut self, trustees: u8, groups: usize) -> Result<[u8; 70], Refusal>
         requires place { (self.old.line ≡ 1) × ((25 * (groups + 1) ≤ length self.old.sheet.now) × (groups ≤ 70)) }
         requires trustees { (trustees ≤ 8) × (trustees ≡ n_of self.old.sheet.now) }
-        ensures { MatchResult result (λ masks. Lined self.old.sheet.now trustees groups masks) (λ e. first (map (line_fault self.old.sheet.now) (range_with_len 2 groups)) ≡ Some e) }
+        ensures { MatchResult result
+            (λ masks. Lined self.old.sheet.now trustees groups masks)
+            (λ e. first (map (line_fault self.old.sheet.now) (range_with_len 2 groups)) ≡ Some e) }
     {
         let mut masks = [0u8; 70];
         let mut above = 0;

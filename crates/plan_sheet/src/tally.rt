@@ -48,7 +48,9 @@ impl Tally {
 
     // The mask, if the members rise and it is above another.
     pub(crate) fn above(self, other: u8) -> Option<u8>
-        ensures { MatchOption result ((is_some self.mask && nat_lt other (unwrap_or self.mask 0)) ≡ false) (λ m. ((is_some self.mask && nat_lt other (unwrap_or self.mask 0)) ≡ true) × (m ≡ unwrap_or self.mask 0)) }
+        ensures { MatchOption result
+            ((is_some self.mask && nat_lt other (unwrap_or self.mask 0)) ≡ false)
+            (λ m. ((is_some self.mask && nat_lt other (unwrap_or self.mask 0)) ≡ true) × (m ≡ unwrap_or self.mask 0)) }
     {
         self.mask.filter(|mask| other < *mask)
     }

@@ -41,7 +41,7 @@ loop-preserved c =
     let te : t ≡ worth (field_at 3 s l f) = cc in
     let g = going_next s l c.args.trustees f c.loop.tally.floor (unwrap_or c.loop.tally.mask 0) (is_some c.loop.tally.mask) c.loop.invariant.2 le b t te
     c.with-tally.result.floor (unwrap_or c.with-tally.result.mask 0) (is_some c.with-tally.result.mask)
-    c.with-tally.ensures.order c.with-tally.ensures.mask (c.with-tally.ensures.below c.args.trustees c.loop.invariant.2.under w.2) in
+    c.with-tally.ensures.order c.with-tally.ensures.mask (c.with-tally.ensures.below c.args.trustees c.loop.invariant.2.under w.1.1) in
     (c.next.ensures.moved.0 ∙ i0, c.next.ensures.moved.1 ∙ i1, going_at _ _ _ _ _ _ _ _ (sym c.next.ensures.moved.2) g, omega arith)
 
 pub returns : goal.returns
@@ -51,6 +51,6 @@ returns c =
     record {
       value = ok_or_is c.above.result (Members c.loop.self.line) c.ok_or.result _ _ c.ok_or.ensures.value
           (λ n. a.1 (rw n at c.above.ensures) ∙ ap (λ k. Some (Members k)) (sym c.loop.invariant.1))
-          (λ m s. let r = rw s at c.above.ensures in let z = a.0 r.0 in (z.0, r.1 ∙ z.1, omega (arith, r.1, z.2), omega (arith, r.1, z.3)));
+          (λ m s. let r = rw s at c.above.ensures in let z = a.0 r.0 in (z.0, (r.1 ∙ z.1, omega (arith, r.1, z.2), omega (arith, r.1, z.3))));
       moved = (c.loop.invariant.0, c.loop.invariant.1);
     }

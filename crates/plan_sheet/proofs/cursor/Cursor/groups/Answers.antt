@@ -32,7 +32,7 @@ loop-mask-preserved c =
     let ln : c.next_line.new.self.line ≡ c.loop-mask.mask-index + 2 = omega (arith, c.next_line.ensures.1, c.loop-mask.invariant.1.at) in (
       c.group.ensures.moved.0 ∙ sh,
       lining_next s c.args.trustees c.args.groups c.loop-mask.mask-index c.loop-mask.self.line c.loop-mask.above c.loop-mask.mask-items c.loop-mask.invariant.1 (omega arith)
-          (sym (at_line line_fault _ _ _ _ sh ln) ∙ w.0) _ (w.1 ∙ at_line mask_at _ _ _ _ sh ln) w.2 w.3 _ (c.group.ensures.moved.1 ∙ c.next_line.ensures.1),
+          (sym (at_line line_fault _ _ _ _ sh ln) ∙ w.0) _ (w.1.0 ∙ at_line mask_at _ _ _ _ sh ln) w.1.1 w.1.2 _ (c.group.ensures.moved.1 ∙ c.next_line.ensures.1),
     )
 
 pub returns : goal.returns

@@ -62,14 +62,14 @@ returns c =
     record {
       value = record {
         faultless = rw (b1, b2, b3, b4);
-        n_is = worth_there a1 q1.1;
-        h_is = worth_there a2 q2.1;
-        w_is = worth_there a3 q3.1;
-        m_is = worth_there a4 q4.1;
-        n_in = q1.2;
-        h_in = q2.2;
-        w_in = q3.2;
-        m_in = q4.2;
+        n_is = worth_there a1 q1.1.0;
+        h_is = worth_there a2 q2.1.0;
+        w_is = worth_there a3 q3.1.0;
+        m_is = worth_there a4 q4.1.0;
+        n_in = q1.1.1;
+        h_in = q2.1.1;
+        w_in = q3.1.1;
+        m_in = q4.1.1;
       };
       moved = search rules;
     }

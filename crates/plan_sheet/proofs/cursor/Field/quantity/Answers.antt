@@ -10,7 +10,7 @@ returns g c =
     let is = c.in_ok-number.ensures in
     ok_or_is c.of.result c.out_of_range.result c.ok_or.result _ _ c.ok_or.ensures.value
     (λ n. quantity_out g.Q.Quantity.allowed _ _ _ _ is (rw n at c.of.ensures) ∙ ap (λ e. Some e) (sym c.out_of_range.ensures))
-    (λ x s. let q = rw s at c.of.ensures in (quantity_in g.Q.Quantity.allowed _ _ _ _ is q.0, q.1 ∙ sym (worth_is c.args.self.now.bytes.now _ is), ap g.Q.Quantity.allowed q.1 ∙ q.0))
+    (λ x s. let q = rw s at c.of.ensures in (quantity_in g.Q.Quantity.allowed _ _ _ _ is q.0, (q.1 ∙ sym (worth_is c.args.self.now.bytes.now _ is), ap g.Q.Quantity.allowed q.1 ∙ q.0)))
 
 pub returns-in_err-number : goal.returns-in_err-number
 unfolding quantity_fault
