@@ -1,19 +1,26 @@
 -- One bit set in a row of bytes.
-use Rattle.std.proofs.Common.{◌≡◌, ℕ, zero, suc, ◌*◌, ◌/◌, ◌%◌, ◌^◌, ◌<◌, ◌≤◌, false, ◌||◌, eqb, leb, List, length, get_or, set, replicate, None, Option, sym, refl, ap, ◌∙◌, inl, ⊎_elim, mod-lt, arith, pow_mono, w8}
+use Rattle.std.proofs.Common.{◌≡◌, true, ℕ, zero, suc, ◌*◌, ◌/◌, ◌%◌, ◌^◌, ◌<◌, ◌≤◌, false, ◌||◌, eqb, leb, List, length, get_or, set, replicate, None, sym, refl, ap, ◌∙◌, inl, ⊎_elim, mod-lt, arith, pow_mono, w8}
 use native.Mathlib.Nat.{div-add-mod}
 use lib.Bits.{bit_or}
 use Rattle.std.proofs.lemmas.Nat.{pow_pos, div_below}
+use Rattle.std.proofs.lemmas.Grind.{one_shifted}
 use Rattle.std.proofs.lemmas.Nat.Bits.{bit_at_set_same, bit_at_set_other, bit_at-zero}
 use Rattle.std.proofs.lemmas.List.{get_or-set_same, get_or-set_other}
-use Rattle.std.proofs.Math.Bool.{or_comm, or_assoc, or-false}
-use Rattle.std.proofs.lemmas.Bool.{cases_eq, eq-eqb, ne_eqb, leb-false, or_parts, cond-false}
-use Rattle.ledger.specs.declared.refusal.Refusal.{Refusal}
+use Rattle.std.proofs.Math.Bool.{or-false}
+use Rattle.std.proofs.lemmas.Bool.{cases_eq, eq-eqb, ne_eqb, leb-false, or_parts}
 use Rattle.ledger.specs.Marks.{marked, of_marks}
 use Rattle.ledger.specs.Standing.{Fresh}
-use Rattle.ledger.specs.Spend.{Spends, spend_refusal}
+use Rattle.checks.specs.Checks.{first_refusal}
+use Rattle.ledger.specs.Spend.{checks, Spends}
+use Rattle.ledger.proofs.Checked.{accepts}
+use Rattle.ledger.proofs.Trees.{tree_spends}
 
 pub key_low : (key h : ℕ) → key < 2 ^ h → h ≤ 10 → key / 8 < 128
 key_low key h lt le = let p : 2 ^ h ≤ 2 ^ 10 = pow_mono le in div_below key 8 128 (omega arith) (omega arith)
+
+-- the mark of a key, as the code shifts it
+pub shifted : (key : ℕ) → (1 * 2 ^ (key % 8)) % 256 ≡ 2 ^ (key % 8)
+shifted key = (one_shifted (key % 8) 255 refl (mod-lt key (omega arith))).0
 
 -- the bit of a key set among the marks
 set_marked : (marks : List ℕ) (key k : ℕ) → key / 8 < length marks → marked (set marks (key / 8) (bit_or (get_or marks (key / 8) 0) ((1 * 2 ^ (key % 8)) % 256))) k ≡ (eqb k key || marked marks k)
@@ -44,16 +51,13 @@ module _ (marks : List ℕ) (h key : ℕ) (free : false ≡ (leb (2 ^ h) key || 
   pub free_low : key / 8 < 128
   free_low = key_low key h (leb-false _ _ (or_parts _ _ (sym free)).0) le
 
+  pub accepted : first_refusal (checks (of_marks marks h) key) ≡ None
+  accepted = accepts (of_marks marks h) key (sym free) (λ e. omega (arith, pow_pos h))
+
   pub spends : length marks ≡ 128 → Spends (of_marks marks h) key (of_marks (set marks (key / 8) (bit_or (get_or marks (key / 8) 0) ((1 * 2 ^ (key % 8)) % 256))) h)
   spends full =
       let within : key / 8 < length marks = omega (arith, free_low) in
-      record {
-        keys = λ k. ap (λ t. leb (2 ^ h) k || t) (set_marked marks key k within) ∙ sym (or_assoc (leb (2 ^ h) k) (eqb k key) (marked marks k)) ∙ ap (λ t. t || marked marks k) (or_comm (leb (2 ^ h) k) (eqb k key)) ∙ or_assoc (eqb k key) (leb (2 ^ h) k) (marked marks k);
-        left = inl refl;
-      }
-
-  pub no_refusal : ◌≡◌ {A = Option Refusal} None (spend_refusal (of_marks marks h) key)
-  no_refusal = sym (cond-false _ _ _ (sym free) ∙ cond-false _ _ _ (ne_eqb (2 ^ h) 0 (λ e. omega (arith, pow_pos h))))
+      tree_spends true h key (marked marks) _ (2 ^ h) (2 ^ h) accepted (λ k. set_marked marks key k within) (inl refl)
 
 -- nothing is marked in zeros
 pub unmarked : (n h : ℕ) → Fresh h (of_marks (replicate n 0) h)

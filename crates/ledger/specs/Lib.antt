@@ -2,5 +2,9 @@ pub mod Standing
 pub mod Refusals
 pub mod Spend
 pub mod Marks
-pub mod Lowest
 pub mod Mirrors
+pub mod Kinds
+pub mod Lent
+pub mod Lowest
+pub mod Counts
+pub mod Runs

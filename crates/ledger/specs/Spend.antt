@@ -1,19 +1,23 @@
--- What one spend answers, and what it alters.
-use Rattle.std.specs.Prelude.{◌≡◌, ℕ, ◌+◌, cond, ◌⊎◌, Some, None, Ok, Err, Option, Result, ◌==◌}
-use Rattle.ledger.specs.Standing.{Standing, with_key}
+-- What a spend checks, and what an accepted one does.
+use Rattle.std.specs.Prelude.{◌≡◌, ℕ, ◌+◌, Bool, not, ◌||◌, ◌⊎◌, List, [], ◌∷◌, None, ◌==◌}
+use Rattle.checks.specs.Checks.{first_refusal}
+use Rattle.ledger.specs.Standing.{Standing}
 use Rattle.ledger.specs.declared.refusal.Refusal.{Refusal}
 use Rattle.ledger.specs.declared.refusal.Refusal.TheVariants.{Spent, NoRoom}
 
--- a spent key is refused, and otherwise any key where there is no room
-abbrev pub spend_refusal : Standing → ℕ → Option Refusal
-spend_refusal s key = cond (s.spent key) (Some Spent) (cond (s.room == 0) (Some NoRoom) None)
+-- the checks of a spend, in order: the key is not spent, and there is room
+abbrev pub checks : Standing → ℕ → List (Bool × Refusal)
+checks s key = (not (s.spent key), Spent) ∷ (not (s.room == 0), NoRoom) ∷ []
 
--- an accepted spend: just key became spent, and the room fell by one or stayed
+-- whether a number is spent once a key is spent on a ledger that stood so: the key is, and what was
+abbrev pub with_key : Standing → ℕ → ℕ → Bool
+with_key before key k = k == key || before.spent k
+
+-- an accepted spend of a key
 pub record Spends (before : Standing) (key : ℕ) (after : Standing) : Type 0 where
-  pub keys : (k : ℕ) → after.spent k ≡ with_key before.spent key k
+  -- no check refused it
+  pub accepted : first_refusal (checks before key) ≡ None
+  -- just the key became spent
+  pub keys : (k : ℕ) → after.spent k ≡ with_key before key k
+  -- and the room fell by one or stayed
   pub left : (after.room ≡ before.room) ⊎ (after.room + 1 ≡ before.room)
-
--- what a spend alters: nothing where it refuses
-abbrev pub Altered : {X : Type 0} → Standing → ℕ → Standing → Result X Refusal → Type 0
-Altered before key after (Ok _) = Spends before key after
-Altered before key after (Err e) = after ≡ before

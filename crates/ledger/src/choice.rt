@@ -1,15 +1,15 @@
 // A ledger of one of two kinds, so that ledgers of unlike kinds stand in one slice.
-ghost use Rattle.std.specs.Prelude.{◌≡◌};
-ghost use Rattle.std.specs.Result.{result_err};
-ghost use Rattle.either.specs.Either.{either, is_left};
-ghost use Rattle.ledger.specs.Spend.{spend_refusal, Altered};
+ghost use Rattle.either.specs.Either.{either};
+ghost use Rattle.ledger.specs.Kinds.{either_after};
 
 use crate::interface::Ledger;
 use crate::refusal::Refusal;
 use either::{Either, for_both};
 
 impl<A: Ledger, B: Ledger> Ledger for Either<A, B> {
-    ghost standing = { either A.Ledger.standing B.Ledger.standing };
+    ghost standing = { either A.standing B.standing };
+
+    ghost after_spend = { either_after A.after_spend B.after_spend };
 
     fn spent(&self, key: u32) -> bool {
         for_both!(self, ledger => ledger.spent(key))
@@ -19,12 +19,7 @@ impl<A: Ledger, B: Ledger> Ledger for Either<A, B> {
         for_both!(self, ledger => ledger.room())
     }
 
-    // The interface's clauses, and that it stays of the same kind.
-    fn spend(&mut self, key: u32) -> Result<(), Refusal>
-        ensures answer { result_err result ≡ spend_refusal (either A.Ledger.standing B.Ledger.standing self.old) key }
-        ensures after { Altered (either A.Ledger.standing B.Ledger.standing self.old) key (either A.Ledger.standing B.Ledger.standing self.new) result }
-        ensures kind { is_left self.new ≡ is_left self.old }
-    {
+    fn spend(&mut self, key: u32) -> Result<(), Refusal> {
         for_both!(self, ledger => ledger.spend(key))
     }
 }

@@ -1,13 +1,18 @@
 // Two ledgers that are kept alike.
-ghost use Rattle.std.specs.Prelude.{◌≡◌};
+ghost use Rattle.std.specs.Prelude.{◌≡◌, if◌then◌else◌, is_ok, OnOk};
 ghost use Rattle.std.specs.Result.{result_err};
-ghost use Rattle.ledger.specs.Mirrors.{of_mirror};
-ghost use Rattle.ledger.specs.Spend.{spend_refusal, Altered};
+ghost use Rattle.checks.specs.Checks.{first_refusal};
+ghost use Rattle.ledger.specs.Mirrors.{of_mirror, mirror_after};
+ghost use Rattle.ledger.specs.Spend.{checks, Spends};
 
 use crate::interface::Ledger;
 use crate::refusal::Refusal;
 
-// Spent in either, with the smaller room; an accepted spend is made in both.
+/// A ledger over two of any kinds: a key is spent if it is spent in either, the room is the smaller
+/// one, and an accepted spend is made in both halves, a refused one in neither.
+///
+/// To learn afterwards what stands in the memory that a half borrows, lend the half to the mirror,
+/// as `Mirror { first: &mut tape, .. }`.
 #[derive(Drop)]
 pub struct Mirror<A: Ledger, B: Ledger> {
     pub first: A,
@@ -15,7 +20,9 @@ pub struct Mirror<A: Ledger, B: Ledger> {
 }
 
 impl<A: Ledger, B: Ledger> Ledger for Mirror<A, B> {
-    ghost standing = { of_mirror A.Ledger.standing B.Ledger.standing };
+    ghost standing = { of_mirror A.standing B.standing };
+
+    ghost after_spend = { mirror_after A.after_spend B.after_spend };
 
     fn spent(&self, key: u32) -> bool {
         self.first.spent(key) || self.second.spent(key)
@@ -25,17 +32,24 @@ impl<A: Ledger, B: Ledger> Ledger for Mirror<A, B> {
         self.first.room().min(self.second.room())
     }
 
-    // The interface's clauses, and that a spend is made in both halves or in neither.
+    // The interface's clauses, and that an accepted spend is one in each half.
     fn spend(&mut self, key: u32) -> Result<(), Refusal>
-        ensures answer { result_err result ≡ spend_refusal (of_mirror A.Ledger.standing B.Ledger.standing self.old) key }
-        ensures after { Altered (of_mirror A.Ledger.standing B.Ledger.standing self.old) key (of_mirror A.Ledger.standing B.Ledger.standing self.new) result }
-        ensures first { Altered (A.Ledger.standing self.old.first) key (A.Ledger.standing self.new.first) result }
-        ensures second { Altered (B.Ledger.standing self.old.second) key (B.Ledger.standing self.new.second) result }
+        ensures answer { result_err result ≡
+            first_refusal (checks (of_mirror A.standing B.standing self.old) key) }
+        ensures spends { OnOk result (Spends (of_mirror A.standing B.standing self.old) key
+            (of_mirror A.standing B.standing self.new)) }
+        ensures value { self.new ≡ (if is_ok result
+            then mirror_after A.after_spend B.after_spend self.old key else self.old) }
+
+        ensures first { OnOk result
+            (Spends (A.standing self.old.first) key (A.standing self.new.first)) }
+        ensures second { OnOk result
+            (Spends (B.standing self.old.second) key (B.standing self.new.second)) }
     {
-        if self.spent(key) {
+        if (*self).spent(key) {
             return Err(Refusal::Spent);
         }
-        if self.room() == 0 {
+        if (*self).room() == 0 {
             return Err(Refusal::NoRoom);
         }
         self.first.spend(key)?;

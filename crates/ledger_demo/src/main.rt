@@ -1,19 +1,25 @@
-// Shows a tape made, spent on, opened again and refused when damaged, a mirror of a tape and a bitmap, and a mirror over a mirror.
+// Shows a tape made, spent on, opened again and refused when damaged; a mirror of a tape and a
+// bitmap, and a mirror over a mirror; ledgers of two kinds in one slice; and tapes whose bytes are
+// lent for one spend.
 #![tactic(auto)]
 
-ghost use Rattle.std.specs.Prelude.{◌≡◌, MatchResult};
-ghost use Rattle.tape.specs.Lines.{lines, flat, spent_on};
+ghost use Rattle.std.specs.Prelude.{◌≡◌, if◌then◌else◌, is_ok};
+ghost use Rattle.tape.specs.Lines.{with_line};
 
 use either::Either;
-use ledger::{Bitmap, Ledger, Mirror, Refusal, next_free};
+use ledger::{Bitmap, Ledger, Mirror, Refusal, next_free, spend_on_both};
 use sizes::Height;
 use std::{io, str};
-use tape::Tape;
+use tape::{Tape, spend_on_two};
 
-// Spends a key and prints the answer: 0, or the number of its refusal.
+// What is printed of an answer: 0, or the number of the refusal.
+fn number_of(answer: Result<(), Refusal>) -> usize {
+    answer.err().map_or(0, |refusal| refusal.number())
+}
+
+// Spends a key and prints the answer.
 fn spend<L: Ledger>(rt: &HostRuntime, ledger: &mut L, key: u32) -> io::Result<()> {
-    let refused = ledger.spend(key).err();
-    let answer = refused.map_or(0, |refusal| refusal.number());
+    let answer = number_of(ledger.spend(key));
     let room = ledger.room();
     println!(rt; "spend {key}: {answer}, room {room}")?;
     Ok(())
@@ -59,7 +65,8 @@ fn show_mirror(rt: &HostRuntime, bytes: &mut [u8]) -> io::Result<()> {
     Ok(())
 }
 
-// Two tapes and a bitmap in a pile of mirrors: a spend is on both tapes, and the shorter one's room is the pile's.
+// Two tapes and a bitmap in a pile of mirrors: a spend is on both tapes, and the shorter one's room
+// is the pile's.
 fn show_pile(rt: &HostRuntime) -> io::Result<()> {
     let (mut short, mut long) = ([0u8; 6], [0u8; 12]);
     let mut pile = Mirror {
@@ -79,7 +86,8 @@ fn show_pile(rt: &HostRuntime) -> io::Result<()> {
     Ok(())
 }
 
-// Ledgers of two kinds in one slice. (A vector, since an array of enums that hold a `&mut` is not possible yet.)
+// Ledgers of two kinds in one slice. (A vector, since an array of enums that hold a `&mut` is not
+// possible yet.)
 fn show_kinds(rt: &HostRuntime) -> io::Result<()> {
     let mut line = [b' '; 6];
     let mut ledgers = Vec::new(rt.alloc());
@@ -93,13 +101,40 @@ fn show_kinds(rt: &HostRuntime) -> io::Result<()> {
     Ok(())
 }
 
-// Spends a key on bytes that are lent to a tape for this alone. Afterwards their owner knows each of them: the key's line is written over the first
-// unused one, or nothing is altered.
+// Spends a key on bytes that are lent to a tape for this alone. Afterwards their owner knows each of
+// them: the key's line is written over the first unused one, or nothing is altered.
 fn spend_on(bytes: &mut [u8], key: u32) -> Result<(), Refusal>
-    ensures { MatchResult result (λ _. bytes.new ≡ flat (spent_on (lines bytes.old) key)) (λ _. bytes.new ≡ bytes.old) }
+    ensures { bytes.new ≡ (if is_ok result then with_line bytes.old key else bytes.old) }
 {
     let mut tape = Tape::open(bytes, Height::Five);
     tape.spend(key)
+}
+
+// The same with the tapes of two owners and a bitmap, in a mirror over a mirror of ledgers that are
+// lent: both owners know their bytes afterwards.
+fn spend_on_pile(first: &mut [u8], second: &mut [u8], key: u32) -> Result<(), Refusal>
+    ensures first { first.new ≡ (if is_ok result then with_line first.old key else first.old) }
+    ensures second { second.new ≡ (if is_ok result then with_line second.old key else second.old) }
+{
+    let mut first_tape = Tape::open(first, Height::Five);
+    let mut second_tape = Tape::open(second, Height::Five);
+    let mut inner = Mirror {
+        first: &mut first_tape,
+        second: Bitmap::new(Height::Five),
+    };
+    spend_on_both(&mut inner, &mut second_tape, key)
+}
+
+// Two owners' tapes, of two lines and of one, lent for one spend at a time: one key is spent on both,
+// and the next on neither, since the shorter one has no room left.
+fn show_two_owners(rt: &HostRuntime) -> io::Result<()> {
+    let (mut long, mut short) = ([b' '; 12], [b' '; 6]);
+    println!(rt; "the bytes of two owners, lent for one spend at a time")?;
+    let both = number_of(spend_on_two(&mut long, &mut short, Height::Five, 8));
+    let neither = number_of(spend_on_pile(&mut long, &mut short, 9));
+    println!(rt; "spend 8: {both}, spend 9 with a bitmap between them: {neither}")?;
+    check(rt, &long)?;
+    check(rt, &short)
 }
 
 fn main(rt: HostRuntime) -> io::Result<()> {
@@ -118,5 +153,6 @@ fn main(rt: HostRuntime) -> io::Result<()> {
     let mut lent = [b' '; 6];
     let refused = spend_on(&mut lent, 3).is_err();
     println!(rt; "bytes that were lent for one spend: refused {refused}")?;
-    check(&rt, &lent)
+    check(&rt, &lent)?;
+    show_two_owners(&rt)
 }

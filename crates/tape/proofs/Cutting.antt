@@ -1,30 +1,42 @@
 -- Bytes cut into lines, as a reader of six bytes at a time meets them.
-use Rattle.std.proofs.Common.{◌≡◌, ℕ, zero, suc, ◌+◌, ◌*◌, ◌%◌, ◌<◌, ◌≤◌, Bool, true, false, cond, not, ◌&&◌, ◌||◌, eqb, List, [], ◌∷◌, ◌++◌, length, Some, None, Option, MatchOption, ltb, sym, refl, ap, ◌∙◌, subst, ⊎_elim, arith}
-use Rattle.std.specs.List.{filter, position_or_len}
+use Rattle.std.proofs.Common.{◌≡◌, ℕ, zero, suc, ◌+◌, ◌*◌, ◌<◌, ◌≤◌, Bool, true, false, cond, not, ◌&&◌, eqb, List, [], ◌∷◌, ◌++◌, length, Some, None, Option, MatchOption, ltb, sym, refl, ap, ◌∙◌, subst, ⊎_elim, arith}
+use Rattle.std.specs.List.{filter, cons_option, position_or_len}
 use Rattle.std.proofs.lemmas.Iterator.{YieldsList}
 use Rattle.std.proofs.lemmas.Iterator.Consumers.{YieldsList-from_shown}
 use Rattle.std.proofs.lemmas.Bool.{cases_Bool, cond-true, cond-false, ltb-true, ltb-false}
-use Rattle.tape.specs.Lines.{lines, line_key, unused, is_key, lists, blanks, all_unused, fresh_key, FirstUnused, sound, Reads}
+use Rattle.tape.specs.Lines.{lines, line_key, unused, listed, blanks, all_unused, fresh_key, FirstUnused, sound, Reads}
 use Rattle.tape.proofs.Taping.{lines_cons}
 
--- what is left when no whole line is
-pub rest_sound : (xs rest : List ℕ) (limit : ℕ) → (length xs < 6) × (rest ≡ xs) → eqb (length rest) 0 ≡ sound limit (lines xs)
+-- where no whole line is left, one to five bytes are no line in order and no unused one
+short : (limit : ℕ) (ys : List ℕ) → length ys < 6 → (eqb (length ys) 0 ≡ sound limit (lines ys)) × (eqb (length ys) 0 ≡ all_unused (lines ys))
 unfolding lines
-rest_sound xs rest limit end = ap (λ ys. eqb (length ys) 0) end.1 ∙ sym (short xs end.0)
-  where
-    short : (ys : List ℕ) → length ys < 6 → sound limit (lines ys) ≡ eqb (length ys) 0
-    short [] h = refl
-    short (a ∷ []) h = refl
-    short (a ∷ b ∷ []) h = refl
-    short (a ∷ b ∷ c ∷ []) h = refl
-    short (a ∷ b ∷ c ∷ d ∷ []) h = refl
-    short (a ∷ b ∷ c ∷ d ∷ e ∷ []) h = refl
-    short (a ∷ b ∷ c ∷ d ∷ e ∷ f ∷ more) h = absurd (omega arith)
+short limit [] h = (refl, refl)
+short limit (a ∷ []) h = (refl, refl)
+short limit (a ∷ b ∷ []) h = (refl, refl)
+short limit (a ∷ b ∷ c ∷ []) h = (refl, refl)
+short limit (a ∷ b ∷ c ∷ d ∷ []) h = (refl, refl)
+short limit (a ∷ b ∷ c ∷ d ∷ e ∷ []) h = (refl, refl)
+short limit (a ∷ b ∷ c ∷ d ∷ e ∷ f ∷ more) h = absurd (omega arith)
+
+-- so the lines are in order, or all unused, just if no byte is left
+module _ (xs rest : List ℕ) (end : (length xs < 6) × (rest ≡ xs)) where
+  pub rest_sound : (limit : ℕ) → eqb (length rest) 0 ≡ sound limit (lines xs)
+  rest_sound limit = ap (λ ys. eqb (length ys) 0) end.1 ∙ (short limit xs end.0).0
+
+  pub rest_unused : eqb (length rest) 0 ≡ all_unused (lines xs)
+  rest_unused = ap (λ ys. eqb (length ys) 0) end.1 ∙ (short 0 xs end.0).1
 
 -- what a line that was read settles
+module _ (bytes line rest : List ℕ) (read : (length line ≡ 6) × (bytes ≡ line ++ rest)) where
+  front : lines bytes ≡ line ∷ lines rest
+  front = ap lines read.1 ∙ lines_cons line rest read.0
+
+  pub all_unused_from : (first : Bool) → first ≡ unused line → all_unused (lines bytes) ≡ (first && all_unused (lines rest))
+  all_unused_from first u = ap all_unused front ∙ ap (λ b. b && all_unused (lines rest)) (sym u)
+
 module _ (bytes line rest : List ℕ) (limit : ℕ) (read : (length line ≡ 6) × (bytes ≡ line ++ rest)) where
   step : sound limit (lines bytes) ≡ cond (unused line) (all_unused (lines rest)) (fresh_key limit (line_key line) (lines rest) && sound limit (lines rest))
-  step = ap (sound limit) (ap lines read.1 ∙ lines_cons line rest read.0)
+  step = ap (sound limit) (front bytes line rest read)
 
   pub sound_unused : true ≡ unused line → sound limit (lines bytes) ≡ all_unused (lines rest)
   sound_unused u = step ∙ ap (λ b. cond b (all_unused (lines rest)) (fresh_key limit (line_key line) (lines rest) && sound limit (lines rest))) (sym u)
@@ -37,34 +49,26 @@ unfoldable pub whole_ones : List ℕ → List (List ℕ)
 whole_ones (a ∷ b ∷ c ∷ d ∷ e ∷ f ∷ rest) = (a ∷ b ∷ c ∷ d ∷ e ∷ f ∷ []) ∷ whole_ones rest
 whole_ones _ = []
 
-and_swap : (a b c : Bool) → (a && (b && c)) ≡ (b && (a && c))
-and_swap true b c = refl
-and_swap false true c = refl
-and_swap false false c = refl
-
 -- what is left over lists no key and is not unused
 pub record Cut (xs : List ℕ) : Type 0 where
-  pub listed : (key : ℕ) → lists (lines xs) key ≡ lists (whole_ones xs) key
+  pub keys : listed (lines xs) ≡ listed (whole_ones xs)
   pub unused_ones : blanks (lines xs) ≡ blanks (whole_ones xs)
-  pub all : all_unused (lines xs) ≡ (eqb (length xs % 6) 0 && all_unused (whole_ones xs))
   pub fits : 6 * length (whole_ones xs) ≤ length xs
 
 pub cut : (xs : List ℕ) → Cut xs
 unfolding lines whole_ones
-cut [] = record { listed = λ key. refl; unused_ones = refl; all = refl; fits = omega arith }
-cut (a ∷ []) = record { listed = λ key. refl; unused_ones = refl; all = refl; fits = omega arith }
-cut (a ∷ b ∷ []) = record { listed = λ key. refl; unused_ones = refl; all = refl; fits = omega arith }
-cut (a ∷ b ∷ c ∷ []) = record { listed = λ key. refl; unused_ones = refl; all = refl; fits = omega arith }
-cut (a ∷ b ∷ c ∷ d ∷ []) = record { listed = λ key. refl; unused_ones = refl; all = refl; fits = omega arith }
-cut (a ∷ b ∷ c ∷ d ∷ e ∷ []) = record { listed = λ key. refl; unused_ones = refl; all = refl; fits = omega arith }
+cut [] = record { keys = refl; unused_ones = refl; fits = omega arith }
+cut (a ∷ []) = record { keys = refl; unused_ones = refl; fits = omega arith }
+cut (a ∷ b ∷ []) = record { keys = refl; unused_ones = refl; fits = omega arith }
+cut (a ∷ b ∷ c ∷ []) = record { keys = refl; unused_ones = refl; fits = omega arith }
+cut (a ∷ b ∷ c ∷ d ∷ []) = record { keys = refl; unused_ones = refl; fits = omega arith }
+cut (a ∷ b ∷ c ∷ d ∷ e ∷ []) = record { keys = refl; unused_ones = refl; fits = omega arith }
 cut (a ∷ b ∷ c ∷ d ∷ e ∷ f ∷ rest) =
     let line = a ∷ b ∷ c ∷ d ∷ e ∷ f ∷ [] in
     let r = cut rest in
-    let long : length (a ∷ b ∷ c ∷ d ∷ e ∷ f ∷ rest) % 6 ≡ length rest % 6 = omega arith in
     record {
-      listed = λ key. ap (λ t. is_key (line_key line) key || t) (r.listed key);
+      keys = ap (cons_option (line_key line)) r.keys;
       unused_ones = ap (λ n. cond (unused line) 1 0 + n) r.unused_ones;
-      all = ap (λ t. unused line && t) r.all ∙ and_swap (unused line) (eqb (length rest % 6) 0) (all_unused (whole_ones rest)) ∙ ap (λ n. eqb n 0 && (unused line && all_unused (whole_ones rest))) (sym long);
       fits = omega (arith, r.fits);
     }
 

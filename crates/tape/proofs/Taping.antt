@@ -1,9 +1,12 @@
 -- Tapes, their lines, and what they list.
 use Rattle.std.proofs.Common.{◌≡◌, ℕ, zero, suc, ◌+◌, ◌*◌, ◌/◌, ◌%◌, ◌^◌, ◌<◌, ◌≤◌, Bool, true, false, cond, not, ◌&&◌, ◌||◌, eqb, ltb, leb, List, [], ◌∷◌, ◌++◌, map, length, get_or, take, replicate, Some, None, Option, sym, refl, ap, ◌∙◌, ⊎_elim, append_assoc, arith}
-use Rattle.std.specs.List.{flat_map, AllByRecursion as All}
+use Rattle.std.specs.List.{flat_map, cons_option, list_any, AllByRecursion as All, IsDistinct}
 use Rattle.std.proofs.lemmas.List.{length-append, take_at, get_or_at, replicate-append-replicate, take_more, take_all, length-take-le, length-replicate}
 use Rattle.std.proofs.Math.Bool.{or-false}
-use Rattle.std.proofs.lemmas.Bool.{and_parts, and_from, cases_Bool, cond-true, cond-false, eq-eqb, eqb-true, ltb-true, lt-ltb, not-true, not_from_false, false≢true}
+use Rattle.std.proofs.lemmas.Bool.{and_parts, and_from, or_parts, cases_Bool, cond-true, cond-false, eq-eqb, eqb-true, ltb-true, lt-ltb, not-true, not_from_false, false≢true}
+use Rattle.std.proofs.lemmas.List.Elements.{All-from_recursion}
+use Rattle.std.proofs.lemmas.List.Folds.{list_any_none}
+use Rattle.std.proofs.lemmas.Map.Keys.{IsDistinct-cons, IsDistinct-head, IsDistinct-tail}
 use Rattle.std.proofs.lemmas.Option.{none-some}
 use Rattle.sizes.specs.declared.height.Height.{Height}
 use Rattle.sizes.specs.Sizes.{levels}
@@ -11,9 +14,11 @@ use Rattle.columns.specs.Number.{spaces, right, number, blank}
 use Rattle.columns.proofs.Telling.{spaces_are}
 use Rattle.columns.proofs.Text.{number_is, number_right, length_right}
 use Rattle.sizes.proofs.Heights.{keys_most}
-use Rattle.tape.specs.Lines.{lines, line_of, taped, line_key, unused, is_key, lists, blanks, all_unused, fresh_key, sound, spent_on, flat}
-use Rattle.tape.specs.Tapes.{accepted}
-use Rattle.tape.specs.Laws.{among, Distinct, Kept}
+use Rattle.tape.specs.Lines.{lines, line_of, taped, line_key, unused, listed, lists, blanks, all_unused, fresh_key, sound, spent_on, flat, with_line}
+use Rattle.checks.proofs.Ordered.{passed}
+use Rattle.tape.specs.declared.refusal.Refusal.TheVariants.{Damaged}
+use Rattle.tape.specs.Tapes.{whole_lines, checks}
+use Rattle.tape.specs.Laws.{OfTree, Kept, Accepted}
 
 -- ---- one line
 abbrev pub Small : ℕ → Type 0
@@ -105,9 +110,24 @@ flat_taped [] (suc room) = ap (λ t. spaces 6 ++ t) (flat_taped [] room) ∙ sym
 flat_taped (key ∷ keys) room = ap (λ t. line_of key ++ t) (flat_taped keys room) ∙ sym (append_assoc (line_of key) (flat_map line_of keys) (spaces (6 * room)))
 
 -- ---- what a tape lists
-lists_blank : (room k : ℕ) → lists (replicate room (spaces 6)) k ≡ false
-lists_blank zero k = refl
-lists_blank (suc room) k = lists_blank room k
+-- a test that finds none fails at each
+pub each_fails : (p : ℕ → Bool) (ks : List ℕ) → list_any p ks ≡ false → All (λ k. p k ≡ false) ks
+each_fails p [] e = tt
+each_fails p (k ∷ ks) e = let parts = or_parts (p k) (list_any p ks) e in (parts.0, each_fails p ks parts.1)
+
+pub finds_none : (p : ℕ → Bool) (ks : List ℕ) → All (λ k. p k ≡ false) ks → list_any p ks ≡ false
+finds_none p ks a = list_any_none p ks (All-from_recursion (λ k. p k ≡ false) ks a)
+
+listed_blank : (room : ℕ) → listed (replicate room (spaces 6)) ≡ []
+listed_blank zero = refl
+listed_blank (suc room) = listed_blank room
+
+pub listed_taped : (keys : List ℕ) (room : ℕ) → All Small keys → listed (taped_lines keys room) ≡ keys
+listed_taped [] room a = listed_blank room
+listed_taped (key ∷ keys) room a = ap (λ o. cons_option o (listed (taped_lines keys room))) (key_of_line key a.0) ∙ ap (λ ks. key ∷ ks) (listed_taped keys room a.1)
+
+lists_taped : (keys : List ℕ) (room k : ℕ) → All Small keys → lists (taped_lines keys room) k ≡ list_any (eqb k) keys
+lists_taped keys room k a = ap (list_any (eqb k)) (listed_taped keys room a)
 
 blanks_blank : (room : ℕ) → blanks (replicate room (spaces 6)) ≡ room
 blanks_blank zero = refl
@@ -116,10 +136,6 @@ blanks_blank (suc room) = omega (arith, blanks_blank room)
 all_blank : (room : ℕ) → all_unused (replicate room (spaces 6)) ≡ true
 all_blank zero = refl
 all_blank (suc room) = all_blank room
-
-pub lists_taped : (keys : List ℕ) (room k : ℕ) → All Small keys → lists (taped_lines keys room) k ≡ among keys k
-lists_taped [] room k a = lists_blank room k
-lists_taped (key ∷ keys) room k a = ap (λ o. is_key o k || lists (taped_lines keys room) k) (key_of_line key a.0) ∙ ap (λ b. eqb key k || b) (lists_taped keys room k a.1)
 
 pub blanks_taped : (keys : List ℕ) (room : ℕ) → All Small keys → blanks (taped_lines keys room) ≡ room
 blanks_taped [] room a = blanks_blank room
@@ -130,14 +146,14 @@ sound_blank : (limit room : ℕ) → sound limit (replicate room (spaces 6)) ≡
 sound_blank limit zero = refl
 sound_blank limit (suc room) = all_blank room
 
-sound_taped : (limit : ℕ) (keys : List ℕ) (room : ℕ) → limit ≤ 1024 → All (λ k. k < limit) keys → All Small keys → Distinct keys → sound limit (taped_lines keys room) ≡ true
+sound_taped : (limit : ℕ) (keys : List ℕ) (room : ℕ) → limit ≤ 1024 → All (λ k. k < limit) keys → All Small keys → IsDistinct eqb keys → sound limit (taped_lines keys room) ≡ true
 sound_taped limit [] room m a s d = sound_blank limit room
 sound_taped limit (key ∷ keys) room m a s d =
     let rest = taped_lines keys room in
-    let absent : lists rest key ≡ false = lists_taped keys room key s.1 ∙ d.0 in
+    let absent : lists rest key ≡ false = lists_taped keys room key s.1 ∙ finds_none (eqb key) keys (IsDistinct-head eqb key keys d) in
     cond-false (unused (line_of key)) (all_unused rest) (fresh_key limit (line_key (line_of key)) rest && sound limit rest) (used_line key s.0)
     ∙ ap (λ o. fresh_key limit o rest && sound limit rest) (key_of_line key s.0)
-    ∙ and_from _ _ (and_from _ _ (lt-ltb key limit a.0) (not_from_false _ absent)) (sound_taped limit keys room m a.1 s.1 d.1)
+    ∙ and_from _ _ (and_from _ _ (lt-ltb key limit a.0) (not_from_false _ absent)) (sound_taped limit keys room m a.1 s.1 (IsDistinct-tail eqb key keys d))
 
 -- what lines in order are
 record Ordered (limit : ℕ) (ls : List (List ℕ)) : Type 0 where
@@ -145,7 +161,7 @@ record Ordered (limit : ℕ) (ls : List (List ℕ)) : Type 0 where
   room : ℕ
   written : ls ≡ taped_lines keys room
   below : All (λ k. k < limit) keys
-  distinct : Distinct keys
+  distinct : IsDistinct eqb keys
 
 all_spaces : (ls : List (List ℕ)) → all_unused ls ≡ true → ls ≡ replicate (length ls) (spaces 6)
 all_spaces [] h = refl
@@ -156,6 +172,7 @@ smaller limit m [] a = tt
 smaller limit m (k ∷ ks) a = (omega (arith, a.0), smaller limit m ks a.1)
 
 ordered : (limit : ℕ) → limit ≤ 1024 → (ls : List (List ℕ)) → sound limit ls ≡ true → Ordered limit ls
+unfolding IsDistinct
 ordered limit m [] h = record { keys = []; room = 0; written = refl; below = tt; distinct = tt }
 ordered limit m (l ∷ ls) h =
     ⊎_elim
@@ -170,13 +187,13 @@ ordered limit m (l ∷ ls) h =
     used go (Some key) e p =
         let fresh = and_parts (ltb key limit) (not (lists ls key)) (ap (λ o. fresh_key limit o ls) (sym e) ∙ p.0) in
         let r = go p.1 in
-        let absent : among r.keys key ≡ false = sym (lists_taped r.keys r.room key (smaller limit m r.keys r.below)) ∙ ap (λ xs. lists xs key) (sym r.written) ∙ not-true _ fresh.1 in
+        let absent : list_any (eqb key) r.keys ≡ false = sym (lists_taped r.keys r.room key (smaller limit m r.keys r.below)) ∙ ap (λ xs. lists xs key) (sym r.written) ∙ not-true _ fresh.1 in
         record {
           keys = key ∷ r.keys;
           room = r.room;
           written = ap (λ x. x ∷ ls) (line_is l key e) ∙ ap (λ xs. line_of key ∷ xs) r.written;
           below = (ltb-true key limit fresh.0, r.below);
-          distinct = (absent, r.distinct);
+          distinct = IsDistinct-cons eqb key r.keys (each_fails (eqb key) r.keys absent) r.distinct;
         }
 
 -- lines in order are whole
@@ -201,37 +218,51 @@ spent_taped (k ∷ ks) room key a =
 
 -- ---- tapes for a tree
 module _ (h : Height) where
-  pub small_keys : (keys : List ℕ) → All (λ k. k < 2 ^ levels h) keys → All Small keys
+  pub small_keys : (keys : List ℕ) → OfTree h keys → All Small keys
   small_keys = smaller (2 ^ levels h) (keys_most h)
 
-  pub kept : (bytes : List ℕ) → accepted (levels h) bytes ≡ true → Kept h bytes
+  -- lines in order are whole
+  pub uncut : (bytes : List ℕ) → sound (2 ^ levels h) (lines bytes) ≡ true → whole_lines bytes ≡ true
+  uncut bytes e = eq-eqb _ _ (whole (2 ^ levels h) bytes (keys_most h) e)
+
+  -- so it is the check of the lines that accepts
+  pub accepted_from : (bytes : List ℕ) → sound (2 ^ levels h) (lines bytes) ≡ true → Accepted h bytes
+  accepted_from bytes e = cond-true _ _ _ (uncut bytes e) ∙ cond-true _ _ _ e
+
+  pub sound_from : (bytes : List ℕ) → Accepted h bytes → sound (2 ^ levels h) (lines bytes) ≡ true
+  sound_from bytes e = passed (checks (levels h) bytes) e 1 (sound (2 ^ levels h) (lines bytes), Damaged) refl
+
+  pub kept : (bytes : List ℕ) → Accepted h bytes → Kept h bytes
   kept bytes e =
-      let r = ordered (2 ^ levels h) (keys_most h) (lines bytes) e in
+      let r = ordered (2 ^ levels h) (keys_most h) (lines bytes) (sound_from bytes e) in
       record { keys = r.keys; room = r.room; written = sym (flat_lines bytes) ∙ ap flat r.written ∙ flat_taped r.keys r.room; below = r.below; distinct = r.distinct }
 
-  pub accepts : (bytes : List ℕ) → Kept h bytes → accepted (levels h) bytes ≡ true
+  pub accepts : (bytes : List ℕ) → Kept h bytes → Accepted h bytes
   accepts bytes k =
       let small = small_keys k.keys k.below in
-      ap (λ xs. sound (2 ^ levels h) (lines xs)) k.written ∙ ap (sound (2 ^ levels h)) (lines_taped k.keys k.room small) ∙ sound_taped (2 ^ levels h) k.keys k.room (keys_most h) k.below small k.distinct
+      accepted_from bytes (
+      ap (λ xs. sound (2 ^ levels h) (lines xs)) k.written
+      ∙ ap (sound (2 ^ levels h)) (lines_taped k.keys k.room small)
+      ∙ sound_taped (2 ^ levels h) k.keys k.room (keys_most h) k.below small k.distinct)
 
-  pub says : (keys : List ℕ) (room k : ℕ) → All (λ k. k < 2 ^ levels h) keys → (leb (2 ^ levels h) k || lists (lines (taped keys room)) k) ≡ (leb (2 ^ levels h) k || among keys k)
+  pub says : (keys : List ℕ) (room k : ℕ) → OfTree h keys → (leb (2 ^ levels h) k || lists (lines (taped keys room)) k) ≡ (leb (2 ^ levels h) k || list_any (eqb k) keys)
   says keys room k a =
       let small = small_keys keys a in
       ap (λ ls. leb (2 ^ levels h) k || lists ls k) (lines_taped keys room small) ∙ ap (λ b. leb (2 ^ levels h) k || b) (lists_taped keys room k small)
 
-  pub roomy : (keys : List ℕ) (room : ℕ) → All (λ k. k < 2 ^ levels h) keys → blanks (lines (taped keys room)) ≡ room
+  pub roomy : (keys : List ℕ) (room : ℕ) → OfTree h keys → blanks (lines (taped keys room)) ≡ room
   roomy keys room a = let small = small_keys keys a in ap blanks (lines_taped keys room small) ∙ blanks_taped keys room small
 
-  pub grows : (keys : List ℕ) (room key : ℕ) → All (λ k. k < 2 ^ levels h) keys → flat (spent_on (lines (taped keys (room + 1))) key) ≡ taped (keys ++ key ∷ []) room
+  pub grows : (keys : List ℕ) (room key : ℕ) → OfTree h keys → with_line (taped keys (room + 1)) key ≡ taped (keys ++ key ∷ []) room
   grows keys room key a =
       let small = small_keys keys a in
       let e : room + 1 ≡ suc room = omega arith in
-      ap (λ r. flat (spent_on (lines (taped keys r)) key)) e ∙ ap (λ ls. flat (spent_on ls key)) (lines_taped keys (suc room) small) ∙ ap flat (spent_taped keys room key small) ∙ flat_taped (keys ++ key ∷ []) room
+      ap (λ r. with_line (taped keys r) key) e ∙ ap (λ ls. flat (spent_on ls key)) (lines_taped keys (suc room) small) ∙ ap flat (spent_taped keys room key small) ∙ flat_taped (keys ++ key ∷ []) room
 
 -- spaces list nothing
-pub spaces_free : (n h k : ℕ) (intact : Bool) (bytes : List ℕ) → eqb (n % 6) 0 ≡ true → intact ≡ true → bytes ≡ spaces n → (not intact || (leb (2 ^ h) k || lists (lines bytes) k)) ≡ leb (2 ^ h) k
-spaces_free n h k intact bytes w i e =
+pub spaces_free : (n h k : ℕ) → eqb (n % 6) 0 ≡ true → (leb (2 ^ h) k || lists (lines (spaces n)) k) ≡ leb (2 ^ h) k
+spaces_free n h k w =
     let m : n ≡ 6 * (n / 6) = omega (arith, eqb-true (n % 6) 0 w) in
-    ap (λ b. not b || (leb (2 ^ h) k || lists (lines bytes) k)) i
-    ∙ ap (λ ls. leb (2 ^ h) k || lists ls k) (ap lines (e ∙ ap spaces m) ∙ lines_spaces (n / 6))
-    ∙ ap (λ b. leb (2 ^ h) k || b) (lists_blank (n / 6) k) ∙ or-false (leb (2 ^ h) k)
+    ap (λ ls. leb (2 ^ h) k || list_any (eqb k) (listed ls)) (ap lines (ap spaces m) ∙ lines_spaces (n / 6))
+    ∙ ap (λ ks. leb (2 ^ h) k || list_any (eqb k) ks) (listed_blank (n / 6))
+    ∙ or-false (leb (2 ^ h) k)

@@ -1,12 +1,12 @@
 // The lines of a tape, read one after the other.
 ghost use Rattle.std.specs.Prelude.{◌≡◌, length};
 ghost use Rattle.std.specs.Iterator.{at_most};
-ghost use Rattle.tape.specs.Lines.{lines, line_key, is_key, lists, blanks, all_unused, fresh_key, sound, Reads};
+ghost use Rattle.tape.specs.Lines.{lines, line_key, lists, blanks, all_unused, fresh_key, sound, Reads};
 
 use crate::line::{is_unused, key_in};
 
-// The whole lines at the front of some bytes; what is left over at the end is no line. A line is told by a pattern that names six bytes
-// and the rest: what is left over at the end needs no test of its own.
+// The whole lines at the front of some bytes. A line is told by a pattern that names six bytes and
+// the rest; what is left when none is there, none to five bytes, stays in it to be looked at.
 #[derive(Drop)]
 pub(crate) struct Lines<'a>(pub(crate) &'a [u8]);
 
@@ -30,11 +30,7 @@ impl Iterator for Lines<'_> {
 pub(crate) fn is_listed(bytes: &[u8], key: u32) -> bool
     ensures { result ≡ lists (lines bytes.now) key }
 {
-    Lines(bytes).any(
-        |line| -> bool
-            ensures { result ≡ is_key (line_key line) key }
-        { key_in(line) == Some(key) },
-    )
+    Lines(bytes).filter_map(key_in).any(|listed| listed == key)
 }
 
 // How many lines are unused.
@@ -48,7 +44,13 @@ pub(crate) fn unused_lines(bytes: &[u8]) -> usize
 fn are_unused(bytes: &[u8]) -> bool
     ensures { result ≡ all_unused (lines bytes.now) }
 {
-    bytes.len() % 6 == 0 && Lines(bytes).all(is_unused)
+    let mut lines = Lines(bytes);
+    while let Some(line) = lines.next() {
+        if !is_unused(line) {
+            return false;
+        }
+    }
+    lines.0.is_empty()
 }
 
 // Whether a line lists a key below a limit that no later line lists.

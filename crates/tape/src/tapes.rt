@@ -1,18 +1,24 @@
 // Tapes that are checked and made.
-ghost use Rattle.std.specs.Prelude.{◌≡◌, true, length, if◌then◌else◌};
+ghost use Rattle.std.specs.Prelude.{◌≡◌, None};
 ghost use Rattle.std.specs.Result.{result_err};
-ghost use Rattle.columns.specs.Number.{spaces};
 ghost use Rattle.sizes.specs.Sizes.{levels};
+ghost use Rattle.checks.specs.Checks.{first_refusal};
 ghost use Rattle.ledger.specs.Standing.{Fresh};
-ghost use Rattle.tape.specs.Tapes.{accepted, whole_lines, tape_fault, new_fault, standing_of};
+ghost use Rattle.tape.specs.Tapes.{checks, new_checks, opened, made, standing_of};
 ghost use Rattle.tape.specs.Laws.{TapesHold};
 
 use crate::lines::are_sound;
 use crate::refusal::Refusal;
 use sizes::Height;
 
-// A tape that is not intact was made of damaged bytes: it leaves them alone, every key is spent, and there is no room.
-// This is a flag, since such a tape has its bytes and its tree too: an enum would name the same two fields twice.
+/// A ledger on borrowed bytes, in lines of six: one for each key that was spent, and then unused
+/// ones, which are its room.
+///
+/// A used line is the key's number, right-justified in 5 columns, and a line feed; an unused one is
+/// six spaces. A tape made of damaged bytes leaves them as they are: every key is spent on it, and
+/// there is no room.
+// Whether it is intact is a flag, since such a tape has its bytes and its tree too: an enum would
+// name the same two fields twice.
 #[derive(Drop)]
 pub struct Tape<'a> {
     pub(crate) bytes: &'a mut [u8],
@@ -21,10 +27,13 @@ pub struct Tape<'a> {
 }
 
 impl<'a> Tape<'a> {
-    // Checks the bytes of a tape for a tree: whole lines, used ones with distinct keys of the tree, and then unused ones. Such are just the
-    // bytes of a tape on which those keys were spent one after the other; they are what it lists, and its unused lines are its room.
+    /// Checks the bytes of a tape for a tree: their length, and then their lines. They are damaged
+    /// unless they are whole lines, used ones with distinct keys of the tree and then unused ones.
+    ///
+    /// The law says what holds of every tape.
+    #[tactic(auto, using(crate::proofs::Reopened::tapes_hold))]
     pub fn check(bytes: &[u8], height: Height) -> Result<(), Refusal>
-        ensures answer { result_err result ≡ tape_fault (levels height) bytes.now }
+        ensures answer { result_err result ≡ first_refusal (checks (levels height) bytes.now) }
         ensures law { TapesHold }
     {
         Tape::check_new(bytes)?;
@@ -34,9 +43,10 @@ impl<'a> Tape<'a> {
         Ok(())
     }
 
-    // Checks bytes that are to become a new tape: their length alone.
+    /// Checks bytes that are to become a new tape: their length alone. They are damaged unless they
+    /// are whole lines; no bytes at all are a tape with no room.
     pub fn check_new(bytes: &[u8]) -> Result<(), Refusal>
-        ensures { result_err result ≡ new_fault bytes.now }
+        ensures { result_err result ≡ first_refusal (new_checks bytes.now) }
     {
         if bytes.len() % 6 == 0 {
             return Ok(());
@@ -44,12 +54,9 @@ impl<'a> Tape<'a> {
         Err(Refusal::Damaged)
     }
 
-    // The tape on these bytes, which it checks by itself.
+    /// The tape on these bytes, which it checks by itself; it alters none of them.
     pub fn open(bytes: &'a mut [u8], height: Height) -> Tape<'a>
-        ensures bytes { result.bytes.now ≡ bytes.old }
-        ensures height { result.height ≡ height }
-        ensures intact { result.intact ≡ accepted (levels height) bytes.old }
-        ensures lender { result.bytes.ghost_name ≡ bytes.entry.ghost_name }
+        ensures { result ≡ opened bytes.entry height }
     {
         let intact = Tape::check(bytes, height).is_ok();
         Tape {
@@ -59,13 +66,12 @@ impl<'a> Tape<'a> {
         }
     }
 
-    // A new tape on these bytes, all spaces, with every key of the tree free; bytes that are not whole lines are left as they are.
+    /// A new tape on these bytes, all spaces, with every key of the tree free. Bytes that are not
+    /// whole lines are left as they are, and the tape is a damaged one.
     pub fn make(bytes: &'a mut [u8], height: Height) -> Tape<'a>
-        ensures bytes { result.bytes.now ≡ (if whole_lines bytes.old then spaces (length bytes.old) else bytes.old) }
-        ensures height { result.height ≡ height }
-        ensures intact { result.intact ≡ whole_lines bytes.old }
-        ensures lender { result.bytes.ghost_name ≡ bytes.entry.ghost_name }
-        ensures fresh { whole_lines bytes.old ≡ true → Fresh (levels height) (standing_of result) }
+        ensures value { result ≡ made bytes.entry height }
+        ensures fresh { first_refusal (new_checks bytes.old) ≡ None →
+            Fresh (levels height) (standing_of result) }
     {
         let intact = Tape::check_new(bytes).is_ok();
         if intact {

@@ -12,4 +12,4 @@ pub loop-line-preserved : goal.loop-line-preserved
 loop-line-preserved c = c.loop-line.invariant ∙ sound_used _ _ _ _ c.in-Some.ensures.steps _ c.if-is_unused.ensures c.if-not-is_fresh.ensures
 
 pub returns : goal.returns
-returns c = c.is_empty.ensures ∙ rest_sound _ _ c.args.limit c.in_default.ensures.steps ∙ sym c.loop-line.invariant
+returns c = c.is_empty.ensures ∙ rest_sound _ _ c.in_default.ensures.steps c.args.limit ∙ sym c.loop-line.invariant

@@ -1,10 +1,9 @@
-use Rattle.std.proofs.Common.{◌≡◌, ◌+◌, ◌-◌, ◌*◌, ◌<◌, ◌≤◌, cond, ◌++◌, length, take, drop, sym, refl, ◌∙◌, arith}
+use Rattle.std.proofs.Common.{◌≡◌, ◌+◌, ◌-◌, ◌*◌, ◌<◌, ◌≤◌, ◌++◌, length, take, drop, sym, ap, ◌∙◌, arith}
 use borrow.Rule.Slice.PartMut.{put_mid}
-use Rattle.std.proofs.lemmas.Bool.{cond-false, ne_eqb}
 use Rattle.sizes.specs.Sizes.{levels}
 use Rattle.sizes.proofs.Heights.{keys_most}
-use Rattle.tape.specs.Lines.{lines, line_of, blanks}
-use Rattle.tape.proofs.Overwriting.{key_below, some_room, after_is, spends}
+use Rattle.tape.specs.Lines.{line_of}
+use Rattle.tape.proofs.Overwriting.{key_below, accepted, after_is, spends}
 use Rattle.tape.proofs.spending.TapeLedger.spend.Goals as goal
 
 pub returns : goal.returns
@@ -23,9 +22,7 @@ returns c =
     let line : c.copy_from_slice.new.self ≡ line_of key = c.copy_from_slice.ensures.after ∙ c.line_of.ensures in
     let put : put_mid at ((at + 6) - at) bytes c.copy_from_slice.new.self ≡ take (6 * i) bytes ++ (line_of key ++ drop 6 (drop (6 * i) bytes)) = λ j. put_mid at (six j) bytes (line j) in
     record {
-      answer = sym (cond-false _ _ _ free ∙ cond-false _ _ _ (ne_eqb (cond t.intact (blanks (lines bytes)) 0) 0 (some_room t.intact h bytes key free i fits got.1 small)));
-      after = spends t.intact h bytes key free i fits got.1 small _ put;
-      bytes = after_is t.intact h bytes key free i fits got.1 small _ put;
-      lender = refl;
-      same = (refl, refl);
+      answer = sym (accepted t.intact h bytes key free i fits got.1 small);
+      spends = spends t.intact h bytes key free i fits got.1 small _ put;
+      value = ap (λ b. record t { bytes = record t.bytes { now = b } }) (after_is t.intact h bytes key free i fits got.1 small _ put);
     }
