@@ -1,20 +1,21 @@
 -- What each row of a key sheet holds.
-use Rattle.std.proofs.Common.{◌≡◌, ℕ, ◌+◌, ◌-◌, ◌*◌, ◌/◌, ◌%◌, ◌<◌, ◌≤◌, List, ◌++◌, length, Some, sym, ap, ◌∙◌, subst, ⊎_elim, append_assoc, arith, slice_index}
-use Rattle.std.proofs.lemmas.Nat.{div-add-mod', mod_below}
-use Rattle.std.proofs.lemmas.Bool.{cases_lt}
+use Rattle.std.proofs.Common.{◌≡◌, ℕ, ◌+◌, ◌*◌, ◌/◌, ◌%◌, ◌<◌, List, ◌++◌, length, Some, sym, ap, ◌∙◌, append_assoc, arith, slice_index, length-append, mul_comm}
+use Rattle.std.proofs.lemmas.Nat.{div-mul-add, mod-mul-add, mul-add-lt}
 use Rattle.rows.specs.Bytes.{part, row_at, rows}
-use Rattle.rows.proofs.Rows.{length_rows, row_of_all, part_behind, part_front}
-use Rattle.plan.specs.Shape.{Shape}
+use Rattle.rows.proofs.Rows.{length_rows, row_of_all, length_part, part_behind, part_front}
+use Rattle.plan.specs.Keys.{owner}
 use Rattle.lmots.proofs.Cells.{rows_cells}
-use Rattle.lms.specs.Scheme.{Holds, components, positions, prefix, component, all_components, path_row}
+use Rattle.lms.specs.Scheme.{Holds, components, positions}
 use Rattle.layout.specs.Part.{part_rows}
+use Rattle.layout.specs.Table.{rows_of_group}
 use Rattle.pads.specs.declared.label.Label.{Label}
-use Rattle.pads.specs.Labelled.{label_at, row_of}
-use Rattle.pads.specs.Source.{Source}
-use Rattle.pads.proofs.Placed.{positive, at_check, at_path, at_component, back}
-use Rattle.splitting.specs.Sources.{source_of}
-use Rattle.splitting.specs.Split.{members_of}
-use Rattle.dealer.specs.Sheet.{check_rows, laid_out, content}
+use Rattle.pads.specs.Labelled.{label_at}
+use Rattle.pads.proofs.Placed.{each_row, back}
+use Rattle.splitting.specs.Sources.{padded, PadsAreRows}
+use Rattle.splitting.specs.Split.{members_of, part_row, split_for}
+use Rattle.splitting.proofs.Listed.{length_padded}
+use Rattle.dealer.specs.Sheet.{Deal, prefix_of, path_of, chain_of, check_row_of, sheet_for, by_owner, key_sheet, key_part, content}
+use Rattle.dealer.specs.Laws.{KeySheets}
 use Rattle.dealer.proofs.Tabling.{in_front}
 
 -- ---- row i behind some rows, and row i of these
@@ -27,59 +28,78 @@ module _ (m i : ℕ) (f : ℕ → List ℕ) (rest : List ℕ) (long : (j : ℕ) 
   among_rows : i < m → row_at i (rows m f ++ rest) ≡ f i
   among_rows l = in_front (rows m f) rest (32 * i) 32 (omega (arith, length_rows f m long)) ∙ row_of_all f m i long l
 
--- ---- the four parts of a sheet, row by row
+-- ---- the four parts of a sheet
+abbrev four : (k h n : ℕ) (C : List ℕ) (checks path chains : ℕ → List ℕ) → List ℕ
+four k h n C checks path chains = C ++ rows k checks ++ rows h path ++ rows n chains
+
+-- row by row
 module _
     (k h n : ℕ) (C : List ℕ) (checks path chains : ℕ → List ℕ)
-    (C-long : length C ≡ 32) (checks-long : (i : ℕ) → i < k → length (checks i) ≡ 32)
+    (C-long : length C ≡ 32) (checks-long : (i : ℕ) → length (checks i) ≡ 32)
     (path-long : (i : ℕ) → length (path i) ≡ 32) (chains-long : (i : ℕ) → length (chains i) ≡ 32)
   where
-    abbrev sheet : List ℕ
-    sheet = C ++ rows k checks ++ rows h path ++ rows n chains
+    abbrev all : List ℕ
+    all = four k h n C checks path chains
 
     abbrev behind : List ℕ
     behind = rows k checks ++ (rows h path ++ rows n chains)
 
-    tied : sheet ≡ C ++ behind
+    tied : all ≡ C ++ behind
     tied = simp append_assoc
 
-    behind_prefix : (i : ℕ) → row_at (1 + i) sheet ≡ row_at i behind
+    behind_prefix : (i : ℕ) → row_at (1 + i) all ≡ row_at i behind
     behind_prefix i =
         let e : 32 * (1 + i) ≡ 32 + 32 * i = omega arith in
         ap (row_at (1 + i)) tied ∙ ap (λ a. part a 32 (C ++ behind)) e ∙ part_behind C behind 32 (32 * i) 32 C-long
 
-    prefix_row : row_at 0 sheet ≡ C
+    prefix_row : row_at 0 all ≡ C
     prefix_row = ap (row_at 0) tied ∙ part_front C behind 32 C-long
 
-    check_row : (i : ℕ) → i < k → row_at (1 + i) sheet ≡ checks i
-    check_row i l = behind_prefix i ∙ among_rows k i checks (rows h path ++ rows n chains) checks-long l
+    check_row : (i : ℕ) → i < k → row_at (1 + i) all ≡ checks i
+    check_row i l = behind_prefix i ∙ among_rows k i checks (rows h path ++ rows n chains) (λ j _. checks-long j) l
 
-    behind_checks : (i : ℕ) → row_at (1 + k + i) sheet ≡ row_at i (rows h path ++ rows n chains)
+    behind_checks : (i : ℕ) → row_at (1 + k + i) all ≡ row_at i (rows h path ++ rows n chains)
     behind_checks i =
         let e : 1 + k + i ≡ 1 + (k + i) = omega arith in
-        ap (λ a. row_at a sheet) e ∙ behind_prefix (k + i) ∙ behind_rows k i checks (rows h path ++ rows n chains) checks-long
+        ap (λ a. row_at a all) e ∙ behind_prefix (k + i) ∙ behind_rows k i checks (rows h path ++ rows n chains) (λ j _. checks-long j)
 
-    path_row_at : (i : ℕ) → i < h → row_at (1 + k + i) sheet ≡ path i
+    path_row_at : (i : ℕ) → i < h → row_at (1 + k + i) all ≡ path i
     path_row_at i l = behind_checks i ∙ among_rows h i path (rows n chains) (λ j _. path-long j) l
 
-    chain_row : (i : ℕ) → i < n → row_at (1 + k + h + i) sheet ≡ chains i
+    chain_row : (i : ℕ) → i < n → row_at (1 + k + h + i) all ≡ chains i
     chain_row i l =
         let e : 1 + k + h + i ≡ 1 + k + (h + i) = omega arith in
-        ap (λ a. row_at a sheet) e ∙ behind_checks (h + i) ∙ behind_rows h i path (rows n chains) (λ j _. path-long j)
+        ap (λ a. row_at a all) e ∙ behind_checks (h + i) ∙ behind_rows h i path (rows n chains) (λ j _. path-long j)
         ∙ row_of_all chains n i (λ j _. chains-long j) l
 
+    all_long : length all ≡ 32 * (1 + k + h + n)
+    all_long =
+        ap length tied ∙ length-append C behind
+        ∙ omega (
+          arith,
+          length-append (rows k checks) (rows h path ++ rows n chains),
+          length-append (rows h path) (rows n chains),
+          length_rows checks k (λ j _. checks-long j),
+          length_rows path h (λ j _. path-long j),
+          length_rows chains n (λ j _. chains-long j),
+          C-long,
+        )
+
+-- the sheet of a dealt key
+pub owned_sheet : (d : Deal) (g key : ℕ) → owner d.plan key ≡ Some g → key_sheet d key ≡ sheet_for d (members_of d.plan g) key
+owned_sheet d g key o = ap (by_owner (λ x. sheet_for d (members_of d.plan x) key)) o
+
 -- ---- and by labels
-module _
-    (hashed : List ℕ → List ℕ) (ots tree : ℕ) (holds : Holds hashed ots tree) (p : Shape) (I seed : List ℕ) (sources : List Source) (key g : ℕ)
-    (checks-long : (i : ℕ) → i < length (members_of p g) → length ((source_of sources (slice_index (members_of p g) i)).check key (prefix hashed I seed key)) ≡ 32)
-  where
+module _ (d : Deal) (ots tree : ℕ) (holds : Holds d.hashed ots tree) (are : PadsAreRows d.sources) where
+  module _ (g key : ℕ) where
     abbrev k : ℕ
-    k = length (members_of p g)
+    k = length (members_of d.plan g)
 
     abbrev h : ℕ
-    h = p.height
+    h = d.plan.height
 
     abbrev w : ℕ
-    w = p.width
+    w = d.plan.width
 
     abbrev P : ℕ
     P = positions w
@@ -88,84 +108,88 @@ module _
     N = components w * P
 
     abbrev C : List ℕ
-    C = prefix hashed I seed key
+    C = prefix_of d key
 
     abbrev checks : ℕ → List ℕ
-    checks i = (source_of sources (slice_index (members_of p g) i)).check key C
+    checks i = check_row_of d key (slice_index (members_of d.plan g) i)
 
     abbrev path : ℕ → List ℕ
-    path = path_row hashed I seed h w key
+    path = path_of d key
 
-    -- the rows of the components, counted through
+    -- the rows of the chains, counted through
     abbrev chains : ℕ → List ℕ
-    chains m = component hashed I seed key (m / P) (m % P)
+    chains m = chain_of d key (m / P) (m % P)
 
-    abbrev laid : List ℕ
-    laid = C ++ rows k checks ++ rows h path ++ rows N chains
+    abbrev sheet : List ℕ
+    sheet = sheet_for d (members_of d.plan g) key
 
-    is_laid : laid_out p sources g key C path (all_components hashed I seed w key) ≡ laid
-    is_laid = ap (λ x. C ++ rows k checks ++ rows h path ++ x) (sym (rows_cells P (components w) (component hashed I seed key)))
+    abbrev parts : List ℕ
+    parts = four k h N C checks path chains
 
-    abbrev held : Label → List ℕ
-    held = content hashed p I seed sources g
-
-    abbrev Right : ℕ → Type 0
-    Right n = row_at n laid ≡ held (label_at k h w key n)
+    is_four : sheet ≡ parts
+    is_four = ap (λ x. C ++ rows k checks ++ rows h path ++ x) (sym (rows_cells P (components w) (chain_of d key)))
 
     C-long : length C ≡ 32
-    C-long = holds.prefix_long I seed key
+    C-long = holds.prefix_long d.identifier d.seed key
+
+    checks-long : (i : ℕ) → length (checks i) ≡ 32
+    checks-long i = (are.checks (slice_index (members_of d.plan g) i) key C).long
 
     path-long : (i : ℕ) → length (path i) ≡ 32
-    path-long i = holds.path_long I seed h w key i
+    path-long i = holds.path_long d.identifier d.seed h w key i
 
     chains-long : (m : ℕ) → length (chains m) ≡ 32
-    chains-long m = holds.component_long I seed key (m / P) (m % P)
+    chains-long m = holds.component_long d.identifier d.seed key (m / P) (m % P)
 
-    each_row : (n : ℕ) → n < part_rows h w k → Right n
-    each_row n l =
-        ⊎_elim
-        (λ (a : n < 1). let z : 0 ≡ n = omega arith in subst Right z (prefix_row k h N C checks path chains C-long checks-long path-long chains-long))
-        (λ (a : 1 ≤ n).
-        ⊎_elim
-        (λ (b : n < 1 + k).
-        let i = n - 1 in
-        let e : 1 + i ≡ n = omega arith in
-        subst Right e (check_row k h N C checks path chains C-long checks-long path-long chains-long i (omega arith) ∙ ap held (sym (at_check k h w key i (omega arith)))))
-        (λ (b : 1 + k ≤ n).
-        ⊎_elim
-        (λ (c : n < 1 + k + h).
-        let i = n - (1 + k) in
-        let e : 1 + k + i ≡ n = omega arith in
-        subst Right e (path_row_at k h N C checks path chains C-long checks-long path-long chains-long i (omega arith) ∙ ap held (sym (at_path k h w key i (omega arith)))))
-        (λ (c : 1 + k + h ≤ n).
-        let m = n - (1 + k + h) in
-        let j : m % P < P = mod_below m P (positive w) in
-        let e : 1 + k + h + m ≡ n = omega arith in
-        let f : 1 + k + h + m ≡ 1 + k + h + m / P * P + m % P = omega (arith, div-add-mod' m P) in
-        subst Right e
-        (chain_row k h N C checks path chains C-long checks-long path-long chains-long m (omega arith)
-        ∙ ap held (sym (ap (label_at k h w key) f ∙ at_component k h w key (m / P) (m % P) j))))
-        (cases_lt n (1 + k + h)))
-        (cases_lt n (1 + k)))
-        (cases_lt n 1)
+    sheet-long : length sheet ≡ 32 * rows_of_group d.plan g
+    sheet-long = ap length is_four ∙ all_long k h N C checks path chains C-long checks-long path-long chains-long
+
+    -- row by row
+    holds_content : (n : ℕ) → n < part_rows h w k → row_at n sheet ≡ content d g (label_at k h w key n)
+    holds_content n l = ap (row_at n) is_four ∙ each_row k h w key (λ m x. row_at m parts ≡ content d g x)
+        (prefix_row k h N C checks path chains C-long checks-long path-long chains-long)
+        (check_row k h N C checks path chains C-long checks-long path-long chains-long)
+        (path_row_at k h N C checks path chains C-long checks-long path-long chains-long)
+        chain
+        n l
+      where
+        chain : (i j : ℕ) → i < components w → j < P → row_at (1 + k + h + i * P + j) parts ≡ chain_of d key i j
+        chain i j a b =
+            let e : 1 + k + h + i * P + j ≡ 1 + k + h + (i * P + j) = omega arith in
+            ap (λ x. row_at x parts) e
+            ∙ chain_row k h N C checks path chains C-long checks-long path-long chains-long (i * P + j) (omega (arith, mul-add-lt i P j (components w) a b, mul_comm P (components w)))
+            ∙ (λ t. chain_of d key (div-mul-add i P j b t) (mod-mul-add i P j b t))
 
     -- the row of a label of this key
-    labelled_row : (n : ℕ) (l : Label) → l.key ≡ key → row_of k h w l ≡ Some n → row_at n (laid_out p sources g key C path (all_components hashed I seed w key)) ≡ held l
-    labelled_row n l same at =
+    of_label : (n : ℕ) (l : Label) → l.key ≡ key → part_row d.plan g l ≡ Some n → row_at n sheet ≡ content d g l
+    of_label n l same at =
         let q = back k h w n l at in
-        ap (row_at n) is_laid ∙ each_row n q.0 ∙ ap held (ap (λ a. label_at k h w a n) (sym same) ∙ q.1)
+        holds_content n q.0 ∙ ap (content d g) (ap (λ a. label_at k h w a n) (sym same) ∙ q.1)
 
--- in what was written for the members of the owner
-module _
-    (hashed : List ℕ → List ℕ) (ots tree : ℕ) (holds : Holds hashed ots tree) (p : Shape) (I seed : List ℕ) (sources : List Source) (key g : ℕ) (ts out : List ℕ)
-    (is : ts ≡ members_of p g)
-    (checks-long : (i : ℕ) → i < length ts → length ((source_of sources (slice_index ts i)).check key (prefix hashed I seed key)) ≡ 32)
-    (written : out ≡ prefix hashed I seed key ++ check_rows sources ts key (prefix hashed I seed key) ++ rows p.height (path_row hashed I seed p.height p.width key) ++ all_components hashed I seed p.width key)
-  where
-    pub labelled : (n : ℕ) (l : Label) → l.key ≡ key → row_of (length (members_of p g)) p.height p.width l ≡ Some n → row_at n out ≡ content hashed p I seed sources g l
-    labelled n l same at =
-        let C = prefix hashed I seed key in
-        let path = rows p.height (path_row hashed I seed p.height p.width key) in
-        let components = all_components hashed I seed p.width key in
-        let long = subst (λ us. (i : ℕ) → i < length us → length ((source_of sources (slice_index us i)).check key C) ≡ 32) is checks-long in
-        ap (row_at n) (written ∙ ap (λ us. C ++ check_rows sources us key C ++ path ++ components) is) ∙ labelled_row hashed ots tree holds p I seed sources key g long n l same at
+    -- ---- and of the part
+    abbrev row : ℕ → List ℕ
+    row n = padded d.sources (members_of d.plan g) (label_at k h w key n) (row_at n sheet)
+
+    row-long : (n : ℕ) → n < rows_of_group d.plan g → length (row n) ≡ 32
+    row-long n l = length_padded d.sources (members_of d.plan g) (label_at k h w key n) (row_at n sheet) ∙ length_part sheet (32 * n) 32 (omega (arith, sheet-long))
+
+    part-long : length (rows (rows_of_group d.plan g) row) ≡ 32 * rows_of_group d.plan g
+    part-long = length_rows row (rows_of_group d.plan g) row-long
+
+    part_of_label : (n : ℕ) (l : Label) → l.key ≡ key → part_row d.plan g l ≡ Some n → row_at n (rows (rows_of_group d.plan g) row) ≡ padded d.sources (members_of d.plan g) l (content d g l)
+    part_of_label n l same at =
+        let q = back k h w n l at in
+        let is : label_at k h w key n ≡ l = ap (λ a. label_at k h w a n) (sym same) ∙ q.1 in
+        row_of_all row (rows_of_group d.plan g) n row-long q.0
+        ∙ (λ t. padded d.sources (members_of d.plan g) (is t) (of_label n l same at t))
+
+  owned_part : (g key : ℕ) → owner d.plan key ≡ Some g → key_part d key ≡ rows (rows_of_group d.plan g) (row g key)
+  owned_part g key o = ap (λ x. split_for d.plan d.sources key (key_sheet d key) x) o ∙ ap (λ s. rows (rows_of_group d.plan g) (λ n. padded d.sources (members_of d.plan g) (label_at (length (members_of d.plan g)) d.plan.height d.plan.width key n) (row_at n s))) (owned_sheet d g key o)
+
+  pub key_sheets : KeySheets d
+  key_sheets = record {
+    long = λ g key o. ap length (owned_sheet d g key o) ∙ sheet-long g key;
+    labelled = λ key g n l o same at. ap (row_at n) (owned_sheet d g key o) ∙ of_label g key n l same at;
+    part_long = λ g key o. ap length (owned_part g key o) ∙ part-long g key;
+    part = λ g key n l o same at. ap (row_at n) (owned_part g key o) ∙ part_of_label g key n l same at;
+  }

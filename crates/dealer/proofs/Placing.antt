@@ -1,8 +1,9 @@
 -- A part, written at its place in the table.
 use borrow.Rule.Slice.PartMut.{put_mid}
-use Rattle.std.proofs.Common.{◌≡◌, ℕ, ◌+◌, ◌-◌, ◌*◌, Bool, true, false, eqb, List, ◌++◌, length, take, drop, Some, None, Option, sym, refl, ap, ◌∙◌, ap₂, ⊎_elim, append_assoc, arith}
+use Rattle.std.proofs.Common.{◌≡◌, ℕ, ◌+◌, ◌-◌, ◌*◌, Bool, true, false, eqb, List, [], ◌∷◌, ◌++◌, length, take, drop, Some, None, Option, sym, refl, ap, ◌∙◌, ap₂, ⊎_elim, append_assoc, arith}
 use Rattle.std.proofs.lemmas.List.{take-append-drop}
 use Rattle.std.proofs.lemmas.Bool.{cases_Bool, cond-false, eq-eqb, ne_eqb, eqb-true}
+use Rattle.checks.specs.Checks.{first_refusal}
 use Rattle.rows.specs.Bytes.{part}
 use Rattle.rows.proofs.Rows.{placed, part_then}
 use Rattle.plan.specs.Shape.{Shape}
@@ -10,9 +11,9 @@ use Rattle.plan.specs.Keys.{owner}
 use Rattle.layout.specs.Table.{rows_of_group, table_rows, section_of, place_in, by_owner, part_start, part_size}
 use Rattle.layout.proofs.Lying.{in_whole}
 use Rattle.pads.specs.Source.{Source}
-use Rattle.splitting.specs.declared.refusal.Refusal.TheVariants.{Sources, SameChecks, Buffer, NotHeld}
+use Rattle.splitting.specs.declared.refusal.Refusal.TheVariants.{Sources, SameChecks, Undealt, Buffer, NotHeld}
 use Rattle.splitting.specs.Sources.{distinct, all_hold}
-use Rattle.splitting.specs.Split.{unless, members_of, of_owner, refusal_if, part_long, refusal}
+use Rattle.splitting.specs.Split.{members_of, split_checks, refusal_if, part_long, refusal}
 use Rattle.splitting.proofs.Fitting.{all_passed}
 use Rattle.dealer.specs.Tabled.{written_at, at_place, tabled}
 
@@ -32,11 +33,13 @@ module _ (p : Shape) (sources : List Source) (key n : ℕ) where
       (cases_Bool whole)
 
   pub same_refusal : refusal p sources key (part_size p key n) ≡ refusal_if p sources key (λ _. whole)
-  same_refusal = ap (λ x. unless (eqb (length sources) p.trustees) Sources (unless (distinct sources) SameChecks x)) (by (owner p key) refl)
+  same_refusal = by (owner p key) refl
     where
-      by : (o : Option ℕ) → owner p key ≡ o → of_owner p sources key (part_long p (part_size p key n)) o ≡ of_owner p sources key (λ _. whole) o
+      by : (o : Option ℕ) → owner p key ≡ o → first_refusal (split_checks p sources key (part_long p (part_size p key n)) o) ≡ first_refusal (split_checks p sources key (λ _. whole) o)
       by None e = refl
-      by (Some g) e = ap (λ b. unless b Buffer (unless (all_hold sources (members_of p g) key) NotHeld None)) (fits_same g e)
+      by (Some g) e =
+          let others = all_hold sources (members_of p g) key in
+          ap (λ b. first_refusal ((eqb (length sources) p.trustees, Sources) ∷ (distinct sources, SameChecks) ∷ (true, Undealt) ∷ (b, Buffer) ∷ (others, NotHeld) ∷ [])) (fits_same g e)
 
   -- where nothing is refused, the buffer has the table's length
   pub is_whole : refusal p sources key (part_size p key n) ≡ None → n ≡ 32 * table_rows p

@@ -1,7 +1,7 @@
 -- Parts in the table.
 use Rattle.std.proofs.Common.{◌≡◌, ℕ, ◌+◌, ◌-◌, ◌*◌, ◌<◌, ◌≤◌, List, [], ◌∷◌, ◌++◌, length, take, drop, Some, None, Option, refl, ap, ◌∙◌, subst, ⊎_elim, append_assoc, arith, length-append, length-drop, All, Contains}
 use Rattle.std.proofs.lemmas.List.{take-take, take-append-le, drop-append-le, drop-drop, drop-take, length-take-le}
-use Rattle.std.proofs.lemmas.List.Elements.{All-head, All-tail}
+use Rattle.std.proofs.lemmas.List.Elements.{All-head, All-tail, All-contains}
 use Rattle.std.proofs.lemmas.Map.Made.{Contains-tail}
 use Rattle.std.proofs.lemmas.Bool.{cases_lt, cases_eq}
 use Rattle.rows.specs.Bytes.{part, row_at}
@@ -11,8 +11,11 @@ use Rattle.plan.specs.Keys.{owner}
 use Rattle.plan.specs.Laws.{Ranges}
 use Rattle.layout.specs.Laws.{Places}
 use Rattle.layout.specs.Table.{rows_of_group, table_rows, section_of, place_in}
-use Rattle.dealer.specs.Tabled.{written_at, at_place, tabled, dealt_all}
-use Rattle.dealer.specs.Laws.{Tabling}
+use Rattle.helper.specs.Holding.{HoldsPart}
+use Rattle.helper.specs.Tables.{of_plan}
+use Rattle.helper.proofs.Lent.{lending}
+use Rattle.dealer.specs.Tabled.{written_at, at_place, tabled, dealt_all, AllDealt}
+use Rattle.dealer.specs.Laws.{PartsFit, IsTable, Tabling}
 
 pub in_front : (x rest : List ℕ) (m n : ℕ) → m + n ≤ length x → part m n (x ++ rest) ≡ part m n x
 in_front x rest m n l = ap (take n) (drop-append-le m x rest (omega arith)) ∙ take-append-le n (drop m x) rest (omega (arith, length-drop m x))
@@ -139,10 +142,40 @@ module _ (p : Shape) (r : Ranges p) (s : Places p) where
           (λ (ne : a ≡ key → ⊥). order keys (tabled p a (parts a) table) rest (long_any a table fits lt) (Contains-tail a keys key ne among))
           (cases_eq a key)
 
+    -- one key more
+    more : (keys : List ℕ) (key : ℕ) (table : List ℕ) → dealt_all p parts (keys ++ key ∷ []) table ≡ tabled p key (parts key) (dealt_all p parts keys table)
+    more [] key table = refl
+    more (a ∷ keys) key table = more keys key (tabled p a (parts a) table)
+
+    dealt_long : (keys table : List ℕ) → PartsFit p parts keys → length table ≡ 32 * table_rows p → length (dealt_all p parts keys table) ≡ 32 * table_rows p
+    dealt_long [] table fit lt = lt
+    dealt_long (a ∷ keys) table fit lt = dealt_long keys (tabled p a (parts a) table) (All-tail Fits a keys fit) (long_any a table (All-head Fits a keys fit) lt)
+
+    -- so a helper lends it
+    lends : (keys table : List ℕ) → length table ≡ 32 * table_rows p → PartsFit p parts keys → (g key : ℕ) → Contains keys key → owner p key ≡ Some g →
+        HoldsPart (of_plan (dealt_all p parts keys table) p) key (parts key)
+    lends keys table lt fit g key among o =
+        let inside = s.inside g key (r.owner_owns g key o) in
+        (lending p r s).part (dealt_all p parts keys table) g key (parts key) o (record {
+          long = All-contains Fits keys key fit among g o;
+          inside = omega (arith, inside, dealt_long keys table fit lt);
+          row = λ n l. order g key n o l keys table fit lt among;
+        })
+
+    whole : (keys table : List ℕ) → length table ≡ 32 * table_rows p → PartsFit p parts keys → AllDealt p keys → IsTable p parts (dealt_all p parts keys table)
+    whole keys table lt fit all = record {
+      long = dealt_long keys table fit lt;
+      dealt = λ g key o. lends keys table lt fit g key (all key (r.inside g key (r.owner_owns g key o))) o;
+      undealt = λ key o. (lending p r s).undealt (dealt_all p parts keys table) key o;
+    }
+
   pub tabling : Tabling p
   tabling = record {
     own = own;
     others = others;
     long = long;
+    more = more;
     order = λ parts keys table lt fit g key n among o l. order parts g key n o l keys table fit lt among;
+    lends = λ parts keys table lt fit g key among o. lends parts keys table lt fit g key among o;
+    whole = whole;
   }

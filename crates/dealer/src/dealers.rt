@@ -5,6 +5,7 @@ use hash::Hash;
 use lms::scheme::Tree;
 use plan::Plan;
 
+/// The dealer of a plan, who holds the identifier and the seed of a tree, and the whole tree.
 #[derive(Drop)]
 pub struct Dealer<H: Hash> {
     pub(crate) plan: Plan,

@@ -9,9 +9,10 @@ use Rattle.hash.proofs.Chaining.{chained_joined, chained_short, chained_full}
 pub written_at : (p q r x : List ℕ) (f : ℕ) → length p ≡ f → length q ≡ length x → written (p ++ (q ++ r)) f x ≡ p ++ (x ++ r)
 written_at p q r x f l e =
     let lq : length (p ++ q) ≡ f + length x = simp length-append (omega arith) in
-    ap (λ u. u ++ (x ++ drop (f + length x) (p ++ (q ++ r)))) (take_at p (q ++ r) f l)
-    ∙ ap (λ u. p ++ (x ++ drop (f + length x) u)) (sym (append_assoc p q r))
-    ∙ ap (λ u. p ++ (x ++ u)) (drop_at (p ++ q) r (f + length x) lq)
+    ap (λ u. u ++ x ++ drop (f + length x) (p ++ (q ++ r))) (take_at p (q ++ r) f l)
+    ∙ ap (λ u. p ++ x ++ drop (f + length x) u) (sym (append_assoc p q r))
+    ∙ ap (λ u. p ++ x ++ u) (drop_at (p ++ q) r (f + length x) lq)
+    ∙ append_assoc p x r
 
 -- a block of n zeros, with t written at its start and the byte m at `at`
 pub mark : (n m at : ℕ) (t b : List ℕ) → length t ≤ at → at < n → b ≡ written (replicate n 0) 0 t → set b at m ≡ t ++ (replicate (at - length t) 0 ++ (m ∷ replicate (n - 1 - at) 0))
@@ -43,8 +44,7 @@ ended_more n m at f t x b l e q =
 pub front_after : (b x new : List ℕ) (f i : ℕ) → f ≤ length b → i ≡ f + length x → new ≡ written b f x → take i new ≡ take f b ++ x
 front_after b x new f i h e q =
     let l : length (take f b ++ x) ≡ i = simp (length-append, length-take-le f b h) (omega arith) in
-    ap (take i) (q ∙ sym (append_assoc (take f b) x (drop (f + length x) b)))
-    ∙ take_at (take f b ++ x) (drop (f + length x) b) i l
+    ap (take i) q ∙ take_at (take f b ++ x) (drop (f + length x) b) i l
 
 module _ (n : ℕ) (F : List ℕ → List ℕ → List ℕ) where
   -- bytes that leave the block open go to the buffer
@@ -63,7 +63,7 @@ module _ (n : ℕ) (F : List ℕ → List ℕ → List ℕ) where
       let lt : length (take f b) ≡ f = length-take-le f b (omega arith) in
       let lf : length front ≡ n - f = ap length qf ∙ length-take-le (n - f) x s in
       let whole : b1 ≡ take f b ++ front =
-      q1 ∙ ap (λ u. take f b ++ (front ++ u)) (drop_all (f + length front) b (omega arith)) ∙ ap (λ u. take f b ++ u) (append-nil front) in
+      q1 ∙ ap (λ u. take f b ++ front ++ u) (drop_all (f + length front) b (omega arith)) ∙ append-nil (take f b ++ front) in
       let joined : x ≡ front ++ back = sym (take-append-drop (n - f) x) ∙ ap (λ u. u ++ drop (n - f) x) (sym qf) ∙ ap (λ u. front ++ u) (sym qb) in
       ap (link v2) (front_after b1 rest b2 0 i (omega arith) (omega arith) q2)
       ∙ p2

@@ -3,7 +3,7 @@ use Rattle.std.specs.Prelude.{ℕ, ◌+◌, ◌-◌, List, ◌∷◌, ◌++◌, 
 
 -- the buffer b with x written at f
 abbrev pub written : List ℕ → ℕ → List ℕ → List ℕ
-written b f x = take f b ++ (x ++ drop (f + length x) b)
+written b f x = take f b ++ x ++ drop (f + length x) b
 
 -- a block of n bytes with t at its start, then the byte m, and zeros
 abbrev pub ended : ℕ → ℕ → List ℕ → List ℕ

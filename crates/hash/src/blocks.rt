@@ -4,6 +4,7 @@ ghost use Rattle.hash.specs.Chaining.{link, chained};
 ghost use Rattle.hash.specs.Buffers.{written, ended};
 
 use crate::front;
+use rows::put;
 use std::alloc::AllocError;
 use std::array;
 
@@ -22,7 +23,8 @@ pub trait Chaining<const N: usize>: Copy {
     ghost sized: { (0 < N) × (N < 2 ^ 63) };
 }
 
-/// A message that is taken in: the value after its whole blocks, and the block that is not whole, the first `filled` bytes of the buffer.
+/// A message that is taken in: the value after its whole blocks, and the block that is not whole,
+/// the first `filled` bytes of the buffer.
 // An array with a count, since a hash is copied in the middle of a message and has no heap.
 pub struct Buffered<C, const N: usize> {
     pub chain: C,
@@ -32,7 +34,8 @@ pub struct Buffered<C, const N: usize> {
     ghost open: { filled < N },
 }
 
-// By hand: a derived `Clone` of a generic struct with a ghost field is refused (derive-over-ghost-field).
+// By hand: a derived `Clone` of a generic struct with a ghost field is refused
+// (derive-over-ghost-field).
 impl<C: Copy, const N: usize> Clone for Buffered<C, N> {
     ghost is_clone = { λ x y. y ≡ x };
 
@@ -92,8 +95,9 @@ impl<C: Chaining<N>, const N: usize> Buffered<C, N> {
         marked(&self.buffer[..self.filled], self.filled, mark)
     }
 
-    /// The block that is not whole, once for each tail: followed by the first `len` bytes of the tail (all 64 where `len` is more), and ended
-    /// by the byte `mark` and zeros. There is none where fewer than `spare` zeros have room.
+    /// The block that is not whole, once for each tail: followed by the first `len` bytes of the
+    /// tail (all 64 where `len` is more), and ended by the byte `mark` and zeros. There is none
+    /// where fewer than `spare` zeros have room.
     pub fn ended_each(
         &self,
         tails: &[[u8; 64]; 8],
@@ -101,8 +105,12 @@ impl<C: Chaining<N>, const N: usize> Buffered<C, N> {
         mark: u8,
         spare: usize,
     ) -> Option<[[u8; N]; 8]>
-        ensures room { IsSome result ↔ (length (held C.value self.now).tail + min len 64 + spare < N) }
-        ensures ends { IfSome result (λ blocks. (i : ℕ) → i < 8 → (slice_index_or blocks i [] ≡ ended N mark ((held C.value self.now).tail ++ take len (slice_index_or tails.now i []))) × (length (take len (slice_index_or tails.now i [])) ≡ min len 64)) }
+        ensures room { IsSome result
+            ↔ (length (held C.value self.now).tail + min len 64 + spare < N) }
+        ensures ends { IfSome result (λ blocks. (i : ℕ) → i < 8 →
+            (slice_index_or blocks i [] ≡ ended N mark
+            ((held C.value self.now).tail ++ take len (slice_index_or tails.now i [])))
+            × (length (take len (slice_index_or tails.now i [])) ≡ min len 64)) }
     {
         let count = len.min(64);
         let room = self.room();
@@ -116,7 +124,8 @@ impl<C: Chaining<N>, const N: usize> Buffered<C, N> {
 
 // Takes in the whole blocks at the front, straight from the input, and gives what is left.
 fn take_blocks<'a, C: Chaining<N>, const N: usize>(chain: &mut C, bytes: &'a [u8]) -> &'a [u8]
-    ensures chain { link (C.value chain.new) result.now ≡ chained N C.after (link (C.value chain.old) []) bytes.now }
+    ensures chain { link (C.value chain.new) result.now
+        ≡ chained N C.after (link (C.value chain.old) []) bytes.now }
     ensures short { length result.now < N }
 {
     let (blocks, rest) = bytes.as_chunks::<N>();
@@ -124,14 +133,6 @@ fn take_blocks<'a, C: Chaining<N>, const N: usize>(chain: &mut C, bytes: &'a [u8
         chain.take_in(block);
     }
     rest
-}
-
-// As `rows` has it, which stands beside this crate and not below.
-fn put(block: &mut [u8], at: usize, bytes: &[u8])
-    requires { at + length bytes.now ≤ length block.old }
-    ensures { block.new ≡ written block.old at bytes.now }
-{
-    block[at..at + bytes.len()].copy_from_slice(bytes);
 }
 
 fn with<const N: usize>(block: &[u8; N], at: usize, bytes: &[u8]) -> [u8; N]
@@ -151,12 +152,17 @@ fn with_each<const N: usize>(
     len: usize,
 ) -> [[u8; N]; 8]
     requires { at + min len 64 ≤ N }
-    ensures { (i : ℕ) → i < 8 → (slice_index_or result i [] ≡ written block.now at (take len (slice_index_or tails.now i []))) × (length (take len (slice_index_or tails.now i [])) ≡ min len 64) }
+    ensures { (i : ℕ) → i < 8 →
+        (slice_index_or result i []
+        ≡ written block.now at (take len (slice_index_or tails.now i [])))
+        × (length (take len (slice_index_or tails.now i [])) ≡ min len 64) }
 {
     array::from_fn(
         |i| -> [u8; N]
             requires { (i < 8) × (at + min len 64 ≤ N) }
-            ensures { (result ≡ written block.entry.now at (take len (slice_index_or tails.entry.now i []))) × (length (take len (slice_index_or tails.entry.now i [])) ≡ min len 64) }
+            ensures { (result
+                ≡ written block.entry.now at (take len (slice_index_or tails.entry.now i [])))
+                × (length (take len (slice_index_or tails.entry.now i [])) ≡ min len 64) }
         { with(block, at, front(&tails[i], len)) },
     )
 }
@@ -164,7 +170,8 @@ fn with_each<const N: usize>(
 // A block with `front` at its start, the byte `mark` at `at`, and zeros.
 fn marked<const N: usize>(front: &[u8], at: usize, mark: u8) -> [u8; N]
     requires { (length front.now ≤ at) × (at < N) }
-    ensures { result ≡ front.now ++ (replicate (at - length front.now) 0 ++ (mark ∷ replicate (N - 1 - at) 0)) }
+    ensures { result ≡ front.now
+        ++ (replicate (at - length front.now) 0 ++ (mark ∷ replicate (N - 1 - at) 0)) }
 {
     let mut block = [0; N];
     put(&mut block[..], 0, front);

@@ -18,7 +18,8 @@ pub struct HmacKey<H> {
 impl<H: Hash> HmacKey<H> {
     /// Takes in the key, masked, on both sides.
     pub fn new(key: &[u8; 32]) -> Self
-        ensures { Keyed H.Hash.first H.Hash.fed H.Hash.block key.now (H.Hash.state result.inner) (H.Hash.state result.outer) }
+        ensures { Keyed H.first H.fed H.block
+            key.now (H.state result.inner) (H.state result.outer) }
     {
         HmacKey {
             inner: took_key(key, INNER),
@@ -28,16 +29,24 @@ impl<H: Hash> HmacKey<H> {
 
     /// The MAC of a text.
     pub fn mac(&self, text: &[u8]) -> [u8; 32]
-        ensures states { result ≡ H.Hash.closed (H.Hash.fed (H.Hash.state self.now.outer) (H.Hash.closed (H.Hash.fed (H.Hash.state self.now.inner) text.now))) }
-        ensures keyed { (key : List ℕ) → Keyed H.Hash.first H.Hash.fed H.Hash.block key (H.Hash.state self.now.inner) (H.Hash.state self.now.outer) → result ≡ hmac_of H.Hash.hashed H.Hash.block key text.now }
+        ensures states { result ≡ H.closed (H.fed (H.state self.now.outer)
+            (H.closed (H.fed (H.state self.now.inner) text.now))) }
+        ensures keyed { (key : List ℕ) →
+            Keyed H.first H.fed H.block key (H.state self.now.inner) (H.state self.now.outer) →
+            result ≡ hmac_of H.hashed H.block key text.now }
     {
         nested(self.inner, self.outer, text)
     }
 
     /// Eight MACs, each of the first `len` bytes of its text (all 64 where `len` is more).
     pub fn mac_each(&self, texts: &[[u8; 64]; 8], len: usize) -> [[u8; 32]; 8]
-        ensures states { (i : ℕ) → i < 8 → slice_index_or result i [] ≡ H.Hash.closed (H.Hash.fed (H.Hash.state self.now.outer) (H.Hash.closed (H.Hash.fed (H.Hash.state self.now.inner) (take len (slice_index_or texts.now i []))))) }
-        ensures keyed { (key : List ℕ) → Keyed H.Hash.first H.Hash.fed H.Hash.block key (H.Hash.state self.now.inner) (H.Hash.state self.now.outer) → (i : ℕ) → i < 8 → slice_index_or result i [] ≡ hmac_of H.Hash.hashed H.Hash.block key (take len (slice_index_or texts.now i [])) }
+        ensures states { (i : ℕ) → i < 8 → slice_index_or result i []
+            ≡ H.closed (H.fed (H.state self.now.outer) (H.closed
+            (H.fed (H.state self.now.inner) (take len (slice_index_or texts.now i []))))) }
+        ensures keyed { (key : List ℕ) →
+            Keyed H.first H.fed H.block key (H.state self.now.inner) (H.state self.now.outer) →
+            (i : ℕ) → i < 8 → slice_index_or result i []
+            ≡ hmac_of H.hashed H.block key (take len (slice_index_or texts.now i [])) }
     {
         let digests = self.inner.each(texts, len);
         self.outer.each(&digests.map(widened), 32)
@@ -46,7 +55,8 @@ impl<H: Hash> HmacKey<H> {
 
 // The outer hash over the digest of the inner one.
 fn nested<H: Hash>(inner: H, outer: H, text: &[u8]) -> [u8; 32]
-    ensures { result ≡ H.Hash.closed (H.Hash.fed (H.Hash.state outer) (H.Hash.closed (H.Hash.fed (H.Hash.state inner) text.now))) }
+    ensures { result
+        ≡ H.closed (H.fed (H.state outer) (H.closed (H.fed (H.state inner) text.now))) }
 {
     finish(outer, &finish(inner, text))
 }
@@ -62,7 +72,7 @@ fn widened(digest: [u8; 32]) -> [u8; 64]
 
 // The hash that has taken in the key, filled up with zeros to a block, with each byte masked.
 fn took_key<H: Hash>(key: &[u8; 32], mask: u8) -> H
-    ensures { H.Hash.state result ≡ H.Hash.fed H.Hash.first (masked mask H.Hash.block key.now) }
+    ensures { H.state result ≡ H.fed H.first (masked mask H.block key.now) }
 {
     let mut hash = H::start();
     hash.feed(&key.map(|byte| byte ^ mask));
@@ -77,7 +87,7 @@ fn took_key<H: Hash>(key: &[u8; 32], mask: u8) -> H
 
 /// The HMAC of a text under a key.
 pub fn hmac<H: Hash>(key: &[u8; 32], text: &[u8]) -> [u8; 32]
-    ensures { result ≡ hmac_of H.Hash.hashed H.Hash.block key.now text.now }
+    ensures { result ≡ hmac_of H.hashed H.block key.now text.now }
 {
     let keyed: HmacKey<H> = HmacKey::new(key);
     keyed.mac(text)

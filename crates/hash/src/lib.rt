@@ -2,7 +2,8 @@
 #![tactic(auto)]
 
 ghost use Rattle.std.specs.Prelude.{◌≡◌, ℕ, ◌^◌, ◌<◌, ◌≤◌, min, List, [], ◌++◌, length, take, slice_index_or};
-ghost use Rattle.hash.specs.Bytes.{Bytes};
+ghost use Rattle.std.proofs.Common.{sym, ap, ◌∙◌, subst};
+ghost use Rattle.rows.specs.Bytes.{Bytes};
 
 use std::array;
 
@@ -11,9 +12,11 @@ pub mod hmac;
 
 /// A hash with a digest of 32 bytes.
 ///
-/// The meaning of every call is a list of bytes: `hashed m` is the digest of the message `m` as the hash's standard defines it.
+/// The meaning of every call is a list of bytes: `hashed m` is the digest of the message `m` as the
+/// hash's standard defines it.
 pub trait Hash: Copy {
-    // What a state stands for: two values that differ in bytes no longer of use may stand for one state.
+    // What a state stands for: two values that differ in bytes no longer of use may stand for one
+    // state.
     ghost State: { Type 0 };
 
     ghost state: { Self → State };
@@ -54,25 +57,30 @@ pub trait Hash: Copy {
     fn close(self) -> [u8; 32]
         ensures { result ≡ closed (state self) };
 
-    /// Eight messages that go on from one state, each by the first `len` bytes of its tail (all 64 where `len` is more).
-    // The length stands beside the tails: an interface's method has no const parameter, and a type that
-    // bounds it would refuse calls that are allowed.
+    /// Eight messages that go on from one state, each by the first `len` bytes of its tail (all 64
+    /// where `len` is more).
+    // The length stands beside the tails: an interface's method has no const parameter, and a type
+    // that bounds it would refuse calls that are allowed.
     fn each(&self, tails: &[[u8; 64]; 8], len: usize) -> [[u8; 32]; 8]
-        ensures { (i : ℕ) → i < 8 → slice_index_or result i [] ≡ closed (fed (state self.now) (take len (slice_index_or tails.now i []))) }
+        ensures { (i : ℕ) → i < 8 → slice_index_or result i []
+            ≡ closed (fed (state self.now) (take len (slice_index_or tails.now i []))) }
     {
         self.one_by_one(tails, len)
     }
 
     /// What `each` answers, one message after the other.
     fn one_by_one(&self, tails: &[[u8; 64]; 8], len: usize) -> [[u8; 32]; 8]
-        ensures { (i : ℕ) → i < 8 → slice_index_or result i [] ≡ closed (fed (state self.now) (take len (slice_index_or tails.now i []))) }
+        ensures { (i : ℕ) → i < 8 → slice_index_or result i []
+            ≡ closed (fed (state self.now) (take len (slice_index_or tails.now i []))) }
     {
         array::from_fn(
             |i| -> [u8; 32]
                 requires { i < 8 }
-                ensures { result ≡ closed (fed (state self.entry.now) (take len (slice_index_or tails.entry.now i []))) }
+                ensures { result ≡ closed
+                    (fed (state self.entry.now) (take len (slice_index_or tails.entry.now i []))) }
             {
-                // Not by `finish`: it asks for the whole interface, of which a default body has only a part.
+                // Not by `finish`: it asks for the whole interface, of which a default body has
+                // only a part.
                 let mut message = *self;
                 message.feed(front(&tails[i], len));
                 message.close()
@@ -87,9 +95,17 @@ pub trait Hash: Copy {
 
     ghost whole: { (m : List ℕ) → hashed m ≡ closed (fed first m) };
 
-    ghost long: { (m : List ℕ) → length (hashed m) ≡ 32 };
+    // What a state closes to is a digest, whether or not any message leads to it.
+    ghost closed_long: { (s : State) → length (closed s) ≡ 32 };
 
-    ghost bytes: { (m : List ℕ) → Bytes (hashed m) };
+    ghost closed_bytes: { (s : State) → Bytes (closed s) };
+
+    // So a digest of a whole message is one, too.
+    ghost long: { (m : List ℕ) → length (hashed m) ≡ 32 } = { λ m.
+        ap length (whole m) ∙ closed_long (fed first m) };
+
+    ghost bytes: { (m : List ℕ) → Bytes (hashed m) } = { λ m.
+        subst Bytes (sym (whole m)) (closed_bytes (fed first m)) };
 
     ghost wide: { 32 ≤ block };
 
@@ -108,7 +124,7 @@ fn front(tail: &[u8; 64], len: usize) -> &[u8]
 
 // The digest of a message of which `hash` has taken in all but `rest`.
 fn finish<H: Hash>(mut hash: H, rest: &[u8]) -> [u8; 32]
-    ensures { result ≡ H.Hash.closed (H.Hash.fed (H.Hash.state hash) rest.now) }
+    ensures { result ≡ H.closed (H.fed (H.state hash) rest.now) }
 {
     hash.feed(rest);
     hash.close()
@@ -116,7 +132,7 @@ fn finish<H: Hash>(mut hash: H, rest: &[u8]) -> [u8; 32]
 
 /// The digest of a whole message.
 pub fn digest<H: Hash>(message: &[u8]) -> [u8; 32]
-    ensures { result ≡ H.Hash.hashed message.now }
+    ensures { result ≡ H.hashed message.now }
 {
     finish(H::start(), message)
 }

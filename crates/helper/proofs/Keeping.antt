@@ -1,10 +1,9 @@
 -- Entries that are looked up, and one that is put among them.
-use Rattle.std.proofs.Common.{◌≡◌, ℕ, zero, suc, ◌<◌, true, false, eqb, ltb, List, [], ◌∷◌, length, set, Some, None, Ok, Err, Option, sym, refl, ap, ◌∙◌, ⊎_elim, arith}
-use Rattle.std.proofs.lemmas.Bool.{cases_Bool, and_from, and_parts, eq-eqb, eqb-true, lt-ltb, cond-true, cond-false}
+use Rattle.std.proofs.Common.{◌≡◌, ℕ, zero, suc, ◌<◌, true, false, eqb, List, [], ◌∷◌, length, set, Some, None, Option, sym, refl, ap, ◌∙◌, ⊎_elim, arith}
+use Rattle.std.proofs.lemmas.Bool.{cases_Bool, and_from, and_parts, eq-eqb, eqb-true, cond-true, cond-false}
 use Rattle.std.proofs.lemmas.Option.{none-some}
 use Rattle.helper.specs.declared.entry.Entry.{Entry}
-use Rattle.helper.specs.declared.refusal.Refusal.TheVariants.{Beyond}
-use Rattle.helper.specs.Holding.{Holding, reading}
+use Rattle.helper.specs.Holding.{Holding}
 use Rattle.helper.specs.Entries.{is_of, lookup, Agrees}
 
 -- an entry that was not there is found where it is put
@@ -20,8 +19,8 @@ found_put (Some y ∷ es) (suc i) x none l =
     (λ (e : t ≡ false). cond-false t _ _ e ∙ found_put es i x (sym (cond-false t (Some y.row) rest e) ∙ none) (omega arith))
     (cases_Bool t)
 
+-- what is found among entries that agree is the row below
 module _ (h : Holding) where
-  -- what is found among entries that agree is the row below
   pub found_below : (es : List (Option Entry)) (key index : ℕ) (row : List ℕ) → Agrees es h → Some row ≡ lookup es key index → row ≡ h.row key index
   found_below [] key index row a e = absurd (none-some row (sym e))
   found_below (None ∷ es) key index row a e = found_below es key index row (λ n. a (suc n)) e
@@ -36,7 +35,3 @@ module _ (h : Holding) where
       same ∙ a 0 x refl ∙ ap (λ k. h.row k x.index) (eqb-true x.key key both.0) ∙ ap (λ n. h.row key n) (eqb-true x.index index both.1))
       (λ (n : t ≡ false). found_below es key index row (λ n. a (suc n)) (e ∙ cond-false t (Some x.row) rest n))
       (cases_Bool t)
-
-  -- what a read below the number gives
-  pub row_given : (key index : ℕ) → index < h.number key → Ok (h.row key index) ≡ reading h key index
-  row_given key index l = sym (cond-true (ltb index (h.number key)) (Ok (h.row key index)) (Err Beyond) (lt-ltb index (h.number key) l))

@@ -1,5 +1,5 @@
 -- The laws of tables.
-use Rattle.std.proofs.Common.{◌≡◌, ℕ, ◌+◌, ◌-◌, ◌*◌, ◌/◌, ◌<◌, ◌≤◌, min, List, length, Some, ap, ◌∙◌, subst, div-mul-le_self, arith}
+use Rattle.std.proofs.Common.{◌≡◌, ℕ, ◌+◌, ◌-◌, ◌*◌, ◌/◌, ◌<◌, ◌≤◌, min, List, length, Some, sym, ap, ◌∙◌, subst, div-mul-le_self, arith}
 use Rattle.std.specs.Option.{option_map}
 use Rattle.std.proofs.lemmas.Nat.{le-div}
 use Rattle.rows.specs.Bytes.{row_at}
@@ -9,7 +9,8 @@ use Rattle.plan.specs.Laws.{Ranges}
 use Rattle.layout.specs.Table.{rows_of_group, table_rows, section_of, place_in}
 use Rattle.layout.specs.Laws.{Places}
 use Rattle.helper.specs.Tables.{number_in, row_in, of_plan}
-use Rattle.helper.specs.Laws.{There, Lending}
+use Rattle.helper.specs.Holding.{HoldsPart}
+use Rattle.helper.specs.Laws.{There, PartAtPlace, Lending}
 
 -- as many of some rows from a place on as some bytes have whole
 module _ (rows at n : ℕ) where
@@ -51,11 +52,17 @@ module _ (p : Shape) (bytes : List ℕ) (g key : ℕ) (o : owner p key ≡ Some 
       let inside = s.inside g key (r.owner_owns g key o) in
       number ∙ counts_all (rows_of_group p g) at (length bytes) (omega (arith, inside, long))
 
+  part : (bs : List ℕ) → PartAtPlace p bytes g key bs → HoldsPart (of_plan bytes p) key bs
+  part bs x =
+      let is : (of_plan bytes p).number key ≡ rows_of_group p g = number ∙ counts_all (rows_of_group p g) at (length bytes) x.inside in
+      record { number = x.long ∙ ap (λ n. 32 * n) (sym is); row = λ index l. row index ∙ x.row index (omega (is, arith)) }
+
 pub lending : (p : Shape) → Ranges p → Places p → Lending p
 lending p r s = record {
   there = λ bytes g key index o l. there p bytes g key o index l;
   held = λ bytes g key index o x. held p bytes g key o index x;
   row = λ bytes g key index o. row p bytes g key o index;
   all = λ bytes g key o long. all p bytes g key o r s long;
+  part = λ bytes g key bs o x. part p bytes g key o bs x;
   undealt = λ bytes key o. ap (λ x. number_in bytes key (option_map (section_of p) x)) o;
 }

@@ -1,5 +1,5 @@
 -- What a cache's entries say.
-use Rattle.std.specs.Prelude.{◌≡◌, ℕ, Bool, cond, ◌&&◌, List, [], ◌∷◌, Some, None, Option, ◌==◌, slice_index_or}
+use Rattle.std.specs.Prelude.{◌≡◌, ℕ, Bool, if◌then◌else◌, ◌&&◌, List, [], ◌∷◌, Some, None, Option, ◌==◌, slice_index_or}
 use Rattle.helper.specs.declared.entry.Entry.{Entry}
 use Rattle.helper.specs.Holding.{Holding}
 
@@ -11,8 +11,9 @@ is_of key index e = e.key == key && e.index == index
 abbrev pub lookup : List (Option Entry) → ℕ → ℕ → Option (List ℕ)
 lookup [] key index = None
 lookup (None ∷ es) key index = lookup es key index
-lookup (Some e ∷ es) key index = cond (is_of key index e) (Some e.row) (lookup es key index)
+lookup (Some e ∷ es) key index = if is_of key index e then Some e.row else lookup es key index
 
 -- every entry has the row below
 abbrev pub Agrees : List (Option Entry) → Holding → Type 0
-Agrees entries below = (n : ℕ) (e : Entry) → slice_index_or entries n None ≡ Some e → e.row ≡ below.row e.key e.index
+Agrees entries below =
+    (n : ℕ) (e : Entry) → slice_index_or entries n None ≡ Some e → e.row ≡ below.row e.key e.index

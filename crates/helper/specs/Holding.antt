@@ -1,5 +1,6 @@
 -- What a helper means: how many rows it holds of each key, and which.
-use Rattle.std.specs.Prelude.{ℕ, cond, List, Ok, Err, Result, nat_lt}
+use Rattle.std.specs.Prelude.{◌≡◌, ℕ, ◌*◌, ◌<◌, Bool, List, [], ◌∷◌, length, nat_lt}
+use Rattle.rows.specs.Bytes.{row_at}
 use Rattle.helper.specs.declared.refusal.Refusal.{Refusal}
 use Rattle.helper.specs.declared.refusal.Refusal.TheVariants.{Beyond}
 
@@ -8,6 +9,11 @@ pub record Holding : Type 0 where
   pub number : ℕ → ℕ
   pub row : ℕ → ℕ → List ℕ
 
--- what a read answers: the row below the number, and a refusal beyond it
-abbrev pub reading : Holding → ℕ → ℕ → Result (List ℕ) Refusal
-reading h key index = cond (nat_lt index (h.number key)) (Ok (h.row key index)) (Err Beyond)
+-- what is checked before one of `number` rows is read: its index is below the number
+abbrev pub read_checks : ℕ → ℕ → List (Bool × Refusal)
+read_checks number index = (nat_lt index number, Beyond) ∷ []
+
+-- of a key it holds just this part: as many rows, and each from the part
+pub record HoldsPart (h : Holding) (key : ℕ) (part : List ℕ) : Type 0 where
+  pub number : length part ≡ 32 * h.number key
+  pub row : (index : ℕ) → index < h.number key → h.row key index ≡ row_at index part

@@ -1,13 +1,13 @@
 -- What two helpers mean together.
-use Rattle.std.specs.Prelude.{cond, nat_lt}
+use Rattle.std.specs.Prelude.{if◌then◌else◌, nat_lt}
 use Rattle.helper.specs.Holding.{Holding}
 use Rattle.helper.specs.declared.pair.Pair.{Pair}
 
 -- for a key of which the first holds any row the first answers, and otherwise the second
 abbrev pub paired : Holding → Holding → Holding
 paired a b = record {
-  number = λ key. cond (nat_lt 0 (a.number key)) (a.number key) (b.number key);
-  row = λ key index. cond (nat_lt 0 (a.number key)) (a.row key index) (b.row key index);
+  number = λ key. if nat_lt 0 (a.number key) then a.number key else b.number key;
+  row = λ key index. if nat_lt 0 (a.number key) then a.row key index else b.row key index;
 }
 
 -- a pair as a helper

@@ -1,23 +1,17 @@
 -- What a table's bytes mean, where each key has a section or none.
-use Rattle.std.specs.Prelude.{ℕ, ◌+◌, ◌-◌, ◌/◌, min, cond, List, [], length, Some, None, Ok, Err, Option, Result, nat_lt}
+use Rattle.std.specs.Prelude.{ℕ, ◌+◌, ◌-◌, ◌/◌, min, List, [], length, Some, None, Option}
 use Rattle.std.specs.Option.{option_map}
 use Rattle.rows.specs.Bytes.{row_at}
 use Rattle.plan.specs.Shape.{Shape}
 use Rattle.plan.specs.Keys.{owner}
 use Rattle.layout.specs.declared.section.Section.{Section}
 use Rattle.layout.specs.Table.{place_in, section_of, find}
-use Rattle.helper.specs.declared.refusal.Refusal.{Refusal}
-use Rattle.helper.specs.declared.refusal.Refusal.TheVariants.{Beyond}
 use Rattle.helper.specs.declared.table.Table.{Table}
 use Rattle.helper.specs.Holding.{Holding}
 
 -- of the rows of a part, as many as some bytes have whole
 abbrev pub whole : ℕ → List ℕ → ℕ
 whole rows bytes = min rows (length bytes / 32)
-
--- and what a read of one of them answers
-abbrev pub part_reading : ℕ → List ℕ → ℕ → Result (List ℕ) Refusal
-part_reading rows bytes index = cond (nat_lt index (whole rows bytes)) (Ok (row_at index bytes)) (Err Beyond)
 
 -- of a key's part, as many rows as are there whole; a key without a section has none
 abbrev pub number_in : List ℕ → ℕ → Option Section → ℕ
@@ -31,7 +25,10 @@ row_in bytes key index (Some s) = row_at (place_in s key + index) bytes
 
 -- bytes as a helper, given each key's section
 abbrev pub laid_out : List ℕ → (ℕ → Option Section) → Holding
-laid_out bytes section = record { number = λ key. number_in bytes key (section key); row = λ key index. row_in bytes key index (section key) }
+laid_out bytes section = record {
+  number = λ key. number_in bytes key (section key);
+  row = λ key index. row_in bytes key index (section key);
+}
 
 -- in a plan's table a key has the section of its owner
 abbrev pub of_plan : List ℕ → Shape → Holding

@@ -1,5 +1,5 @@
 // Sixteen rows kept over any helper.
-ghost use Rattle.std.specs.Prelude.{◌≡◌, ◌<◌, ℕ, List, is_some, Some, None, Ok, Err};
+ghost use Rattle.std.specs.Prelude.{◌≡◌, ◌<◌, ℕ, List, is_some, Some, None, IfOk, OnOk, OnErr};
 ghost use Rattle.helper.specs.Entries.{Agrees};
 
 use crate::entry::{Entry, look_up};
@@ -7,8 +7,9 @@ use crate::interface::Helper;
 use crate::refusal::Refusal;
 use rows::Row;
 
-// The sixteen rows that were last read below, over all keys together, in an array, so that no memory is asked for. `next` is the place for
-// another, counted round and round.
+/// Sixteen rows kept over any helper, over all keys together; it holds what the helper below holds.
+// They stand in an array, so that no memory is asked for. `next` is the place for another, counted
+// round and round.
 #[derive(Drop)]
 pub struct Cache<H: Helper> {
     below: H,
@@ -21,11 +22,12 @@ pub struct Cache<H: Helper> {
 
 impl<H: Helper> Cache<H> {
     ghost use Rattle.helper.specs.Entries.{lookup};
+    ghost use Rattle.helper.specs.Caches.{below_of, kept};
 
-    // A cache that keeps no row yet.
+    /// A cache that keeps no row yet.
     pub fn new(below: H) -> Cache<H>
-        ensures below { result.below ≡ below }
-        ensures empty { (key index : ℕ) → lookup result.entries key index ≡ None }
+        ensures below { below_of result ≡ below }
+        ensures empty { (key index : ℕ) → kept result key index ≡ None }
     {
         Cache {
             below,
@@ -34,32 +36,37 @@ impl<H: Helper> Cache<H> {
         }
     }
 
-    // Whether it keeps a row.
+    /// Whether it keeps the row of a key at an index, so that a read of it does not reach below.
     pub fn holds(&self, key: u32, index: usize) -> bool
-        ensures { result ≡ is_some (lookup self.now.entries key index) }
+        ensures { result ≡ is_some (kept self.now key index) }
     {
         look_up(&self.entries, key, index).is_some()
     }
 }
 
 impl<H: Helper> Helper for Cache<H> {
-    ghost use Rattle.helper.specs.Holding.{reading};
+    ghost use Rattle.std.specs.Result.{result_err};
+    ghost use Rattle.checks.specs.Checks.{first_refusal};
+    ghost use Rattle.helper.specs.Holding.{read_checks};
     ghost use Rattle.helper.specs.Entries.{lookup};
-    ghost use Rattle.helper.specs.declared.refusal.Refusal.{Refusal as Why};
+    ghost use Rattle.helper.specs.Caches.{below_of, kept};
 
-    ghost held = { λ c. H.Helper.held c.below };
+    ghost held = { λ c. H.held c.below };
 
     fn number(&self, key: u32) -> usize {
         self.below.number(key)
     }
 
-    // The interface's clauses, and: a row that it keeps is given with nothing altered, a row that was given is kept, and a refusal alters nothing.
+    /// A row that it keeps is given without a read below, a row that was given is kept afterwards,
+    /// and a refusal alters nothing. Which other rows are kept is left open.
     fn read(&mut self, key: u32, index: usize) -> Result<Row, Refusal>
-        ensures answer { result ≡ reading (H.Helper.held self.old.below) key index }
-        ensures after { H.Helper.held self.new.below ≡ H.Helper.held self.old.below }
-        ensures kept { (row : List ℕ) → lookup self.old.entries key index ≡ Some row → self.new ≡ self.old }
-        ensures last { (row : List ℕ) → result ≡ Ok row → lookup self.new.entries key index ≡ Some row }
-        ensures refused { (why : Why) → result ≡ Err why → self.new ≡ self.old }
+        ensures answer { result_err result
+            ≡ first_refusal (read_checks ((H.held (below_of self.old)).number key) index) }
+        ensures row { IfOk result (λ row. row ≡ (H.held (below_of self.old)).row key index) }
+        ensures after { H.held (below_of self.new) ≡ H.held (below_of self.old) }
+        ensures kept { (row : List ℕ) → kept self.old key index ≡ Some row → self.new ≡ self.old }
+        ensures last { IfOk result (λ row. kept self.new key index ≡ Some row) }
+        ensures refused { OnErr result (self.new ≡ self.old) }
     {
         if index >= self.below.number(key) {
             return Err(Refusal::Beyond);

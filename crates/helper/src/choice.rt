@@ -1,7 +1,9 @@
 // A helper of one of two kinds, so that helpers of unlike kinds stand in one slice.
-ghost use Rattle.std.specs.Prelude.{◌≡◌};
+ghost use Rattle.std.specs.Prelude.{◌≡◌, IfOk};
+ghost use Rattle.std.specs.Result.{result_err};
+ghost use Rattle.checks.specs.Checks.{first_refusal};
 ghost use Rattle.either.specs.Either.{either, is_left};
-ghost use Rattle.helper.specs.Holding.{reading};
+ghost use Rattle.helper.specs.Holding.{read_checks};
 
 use crate::interface::Helper;
 use crate::refusal::Refusal;
@@ -9,16 +11,19 @@ use either::{Either, for_both};
 use rows::Row;
 
 impl<A: Helper, B: Helper> Helper for Either<A, B> {
-    ghost held = { either A.Helper.held B.Helper.held };
+    ghost held = { either A.held B.held };
 
     fn number(&self, key: u32) -> usize {
         for_both!(self, helper => helper.number(key))
     }
 
-    // The interface's clauses, and that it stays of the same kind.
+    /// A read of whichever helper it is; it stays of the same kind.
     fn read(&mut self, key: u32, index: usize) -> Result<Row, Refusal>
-        ensures answer { result ≡ reading (either A.Helper.held B.Helper.held self.old) key index }
-        ensures after { either A.Helper.held B.Helper.held self.new ≡ either A.Helper.held B.Helper.held self.old }
+        ensures answer { result_err result ≡ first_refusal
+            (read_checks ((either A.held B.held self.old).number key) index) }
+        ensures row { IfOk result (λ row.
+            row ≡ (either A.held B.held self.old).row key index) }
+        ensures after { either A.held B.held self.new ≡ either A.held B.held self.old }
         ensures kind { is_left self.new ≡ is_left self.old }
     {
         for_both!(self, helper => helper.read(key, index))

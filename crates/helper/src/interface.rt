@@ -1,20 +1,28 @@
 // What every helper is.
-ghost use Rattle.std.specs.Prelude.{◌≡◌};
-ghost use Rattle.helper.specs.Holding.{Holding, reading};
+ghost use Rattle.std.specs.Prelude.{◌≡◌, IfOk};
+ghost use Rattle.std.specs.Result.{result_err};
+ghost use Rattle.checks.specs.Checks.{first_refusal};
+ghost use Rattle.helper.specs.Holding.{Holding, read_checks};
 
 use crate::refusal::Refusal;
 use rows::Row;
 
-// All that is known of a helper is what it holds: how many rows of each key, and which.
+/// A helper, which lends rows of the public table while a signature is put together.
+///
+/// All that is known of a helper is what it holds: of each key how many rows of 32 bytes, and
+/// which.
 pub trait Helper {
     ghost held: { Self → Holding };
 
-    // How many rows it holds of a key.
+    /// How many rows it holds of a key.
     fn number(&self, key: u32) -> usize
         ensures { result ≡ (held self.now).number key };
 
-    // A row of a key. What a helper holds stays as it is.
+    /// A row of a key, by its index in the key's part, from 0; an index beyond the key's number is
+    /// refused (19). What a helper holds stays as it is.
     fn read(&mut self, key: u32, index: usize) -> Result<Row, Refusal>
-        ensures answer { result ≡ reading (held self.old) key index }
+        ensures answer { result_err result
+            ≡ first_refusal (read_checks ((held self.old).number key) index) }
+        ensures row { IfOk result (λ row. row ≡ (held self.old).row key index) }
         ensures after { held self.new ≡ held self.old };
 }

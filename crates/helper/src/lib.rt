@@ -1,4 +1,4 @@
-// Helpers: they lend rows of the public table while a signature is put together.
+//! Helpers: they lend rows of the public table while a signature is put together.
 #![tactic(auto)]
 
 mod cache;

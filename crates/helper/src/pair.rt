@@ -1,13 +1,16 @@
 // Two helpers, of which one answers for a key.
-ghost use Rattle.std.specs.Prelude.{◌≡◌, ◌<◌};
-ghost use Rattle.helper.specs.Holding.{reading};
+ghost use Rattle.std.specs.Prelude.{◌≡◌, ◌<◌, IfOk};
+ghost use Rattle.std.specs.Result.{result_err};
+ghost use Rattle.checks.specs.Checks.{first_refusal};
+ghost use Rattle.helper.specs.Holding.{read_checks};
 ghost use Rattle.helper.specs.Pairs.{of_pair};
 
 use crate::interface::Helper;
 use crate::refusal::Refusal;
 use rows::Row;
 
-// The first answers for each key of which it holds any row, and the second for all others.
+/// Two helpers: the first answers for each key of which it holds any row, and the second for all
+/// others.
 #[derive(Drop)]
 pub struct Pair<A: Helper, B: Helper> {
     pub first: A,
@@ -15,7 +18,7 @@ pub struct Pair<A: Helper, B: Helper> {
 }
 
 impl<A: Helper, B: Helper> Helper for Pair<A, B> {
-    ghost held = { of_pair A.Helper.held B.Helper.held };
+    ghost held = { of_pair A.held B.held };
 
     fn number(&self, key: u32) -> usize {
         let number = self.first.number(key);
@@ -26,13 +29,20 @@ impl<A: Helper, B: Helper> Helper for Pair<A, B> {
         }
     }
 
-    // The interface's clauses, that both halves hold what they held, and that the one which is not asked stays as it is.
+    /// A read of the half that answers for the key; the other one stays the very same value, and
+    /// both hold what they held.
     fn read(&mut self, key: u32, index: usize) -> Result<Row, Refusal>
-        ensures answer { result ≡ reading (of_pair A.Helper.held B.Helper.held self.old) key index }
-        ensures after { of_pair A.Helper.held B.Helper.held self.new ≡ of_pair A.Helper.held B.Helper.held self.old }
-        ensures halves { (A.Helper.held self.new.first ≡ A.Helper.held self.old.first) × (B.Helper.held self.new.second ≡ B.Helper.held self.old.second) }
-        ensures first { (A.Helper.held self.old.first).number key ≡ 0 → self.new.first ≡ self.old.first }
-        ensures second { 0 < (A.Helper.held self.old.first).number key → self.new.second ≡ self.old.second }
+        ensures answer { result_err result ≡ first_refusal
+            (read_checks ((of_pair A.held B.held self.old).number key) index) }
+        ensures row { IfOk result (λ row.
+            row ≡ (of_pair A.held B.held self.old).row key index) }
+        ensures after { of_pair A.held B.held self.new ≡ of_pair A.held B.held self.old }
+        ensures first_after { A.held self.new.first ≡ A.held self.old.first }
+        ensures second_after { B.held self.new.second ≡ B.held self.old.second }
+        ensures first_same { (A.held self.old.first).number key ≡ 0 →
+            self.new.first ≡ self.old.first }
+        ensures second_same { 0 < (A.held self.old.first).number key →
+            self.new.second ≡ self.old.second }
     {
         if self.first.number(key) > 0 {
             self.first.read(key, index)

@@ -1,6 +1,10 @@
 // The rows of one part.
-ghost use Rattle.std.specs.Prelude.{◌≡◌, drop};
-ghost use Rattle.helper.specs.Tables.{whole, part_reading};
+ghost use Rattle.std.specs.Prelude.{◌≡◌, drop, IfOk};
+ghost use Rattle.std.specs.Result.{result_err};
+ghost use Rattle.checks.specs.Checks.{first_refusal};
+ghost use Rattle.rows.specs.Bytes.{row_at};
+ghost use Rattle.helper.specs.Holding.{read_checks};
+ghost use Rattle.helper.specs.Tables.{whole};
 
 use crate::refusal::Refusal;
 use rows::{Row, row_at};
@@ -33,7 +37,9 @@ impl<'a> Part<'a> {
 
     // One of these.
     pub(crate) fn row(&self, index: usize) -> Result<Row, Refusal>
-        ensures { result ≡ part_reading self.now.rows self.now.bytes.now index }
+        ensures answer { result_err result
+            ≡ first_refusal (read_checks (whole self.now.rows self.now.bytes.now) index) }
+        ensures row { IfOk result (λ row. row ≡ row_at index self.now.bytes.now) }
     {
         if index >= self.number() {
             return Err(Refusal::Beyond);

@@ -1,11 +1,11 @@
 // The public table, on borrowed bytes.
-ghost use Rattle.std.specs.Prelude.{◌≡◌, ℕ};
-ghost use Rattle.std.specs.Option.{option_map};
-ghost use Rattle.plan.specs.Keys.{owner};
+ghost use Rattle.std.specs.Prelude.{◌≡◌, ℕ, ◌<◌, IfOk};
+ghost use Rattle.std.specs.Result.{result_err};
+ghost use Rattle.checks.specs.Checks.{first_refusal};
+ghost use Rattle.rows.specs.Bytes.{row_at};
 ghost use Rattle.plan.specs.View.{view};
-ghost use Rattle.layout.specs.Table.{find, section_of};
-ghost use Rattle.helper.specs.Holding.{reading};
-ghost use Rattle.helper.specs.Tables.{whole, part_reading, of_table, of_plan};
+ghost use Rattle.helper.specs.Holding.{read_checks};
+ghost use Rattle.helper.specs.Tables.{whole, of_table, of_plan};
 ghost use Rattle.helper.specs.Laws.{Lending};
 
 use crate::interface::Helper;
@@ -15,7 +15,8 @@ use layout::Sections;
 use plan::Plan;
 use rows::Row;
 
-// The parts of the dealt keys one behind another, as far as the bytes reach.
+/// The public table on borrowed bytes: the parts of the dealt keys one behind another, by rising
+/// key, as far as the bytes reach.
 #[derive(Clone, Copy)]
 pub struct Table<'a> {
     bytes: &'a [u8],
@@ -23,10 +24,8 @@ pub struct Table<'a> {
 }
 
 impl<'a> Table<'a> {
-    // The table of a plan on these bytes, which may be cut anywhere, or be too many.
+    /// The table of a plan on these bytes, which may be cut anywhere, or be too many.
     pub fn new(bytes: &'a [u8], plan: &Plan) -> Table<'a>
-        ensures bytes { result.bytes.now ≡ bytes.now }
-        ensures owners { (key : ℕ) → find result.sections.all key ≡ option_map (section_of (view plan.now)) (owner (view plan.now) key) }
         ensures means { of_table result ≡ of_plan bytes.now (view plan.now) }
         ensures laws { Lending (view plan.now) }
     {
@@ -39,7 +38,8 @@ impl<'a> Table<'a> {
     // The part of a key; a key that is not dealt has one without rows.
     fn part(&self, key: u32) -> Part<'a>
         ensures number { whole result.rows result.bytes.now ≡ (of_table self.now).number key }
-        ensures rows { (index : ℕ) → part_reading result.rows result.bytes.now index ≡ reading (of_table self.now) key index }
+        ensures rows { (index : ℕ) → index < (of_table self.now).number key →
+            row_at index result.bytes.now ≡ (of_table self.now).row key index }
     {
         let Some(section) = self.sections.find(key) else {
             return Part::new(&[], 0, 0);
@@ -55,9 +55,11 @@ impl Helper for Table<'_> {
         self.part(key).number()
     }
 
-    // The interface's clauses, and that the table stays as it is.
+    /// A read leaves the table the very same value.
     fn read(&mut self, key: u32, index: usize) -> Result<Row, Refusal>
-        ensures answer { result ≡ reading (of_table self.old) key index }
+        ensures answer { result_err result
+            ≡ first_refusal (read_checks ((of_table self.old).number key) index) }
+        ensures row { IfOk result (λ row. row ≡ (of_table self.old).row key index) }
         ensures after { of_table self.new ≡ of_table self.old }
         ensures same { self.new ≡ self.old }
     {

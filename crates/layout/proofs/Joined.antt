@@ -1,19 +1,16 @@
 -- How parts lie one behind another.
-use Rattle.std.proofs.Common.{◌≡◌, ℕ, zero, suc, ◌+◌, ◌-◌, ◌*◌, ◌<◌, ◌≤◌, ◌⊎◌, length, sym, refl, ap, ◌∙◌, subst, ⊎_elim, mul_comm, add-mul, mul-le-mul_left, mul-one, mul-add, arith}
+use Rattle.std.proofs.Common.{◌≡◌, ℕ, zero, suc, ◌+◌, ◌-◌, ◌*◌, ◌<◌, ◌≤◌, ◌⊎◌, length, sym, refl, ap, ◌∙◌, subst, ⊎_elim, mul_comm, add-mul, mul-le-mul_left, arith}
 use Rattle.std.proofs.lemmas.Bool.{cases_eq, cases_lt, cases_order}
 use Rattle.plan.specs.Shape.{Shape}
-use Rattle.plan.specs.Keys.{share, first_key, key_count, Owns}
+use Rattle.plan.specs.Keys.{first_key, key_count, Owns}
 use Rattle.plan.specs.Laws.{Ranges}
-use Rattle.plan.proofs.Shares.{later}
+use Rattle.plan.proofs.Owners.{later}
 use Rattle.layout.specs.Laws.{Places}
 use Rattle.layout.specs.Table.{rows_of_group, start_of, section_of, place_in, table_rows}
 
 pub start_none : (p : Shape) → 0 ≡ start_of p 0
 unfolding start_of
 start_none p = refl
-
-pub first_next : (p : Shape) (n : ℕ) → first_key p (n + 1) ≡ first_key p n + key_count p n
-first_next p n = mul-add (share p) n 1 ∙ ap (λ x. share p * n + x) (mul-one (share p))
 
 pub start_next : (p : Shape) (g : ℕ) → start_of p (g + 1) ≡ start_of p g + key_count p g * rows_of_group p g
 unfolding start_of
@@ -39,12 +36,16 @@ within_group p g key o =
     let up = steps (rows_of_group p g) (key - first_key p g) (key_count p g) (omega (arith, o.1, o.2)) in
     omega (arith, up, start_next p g)
 
--- ---- with nothing between parts
 module _ (p : Shape) (r : Ranges p) where
+  -- the first key of the group behind one
+  pub first_next : (g : ℕ) → g < length p.masks → first_key p (g + 1) ≡ first_key p g + key_count p g
+  first_next g l = let next : g + 1 ≡ suc g = omega arith in ap (first_key p) next ∙ r.follows g l
+
+  -- ---- with nothing between parts
   -- the first key is the first group's
   begins : (g : ℕ) → Owns p g 0 → place_in (section_of p g) 0 ≡ 0
   begins zero o = let none : 0 - first_key p 0 ≡ 0 = omega arith in ap (λ n. start_of p 0 + n * rows_of_group p 0) none ∙ omega (arith, start_none p)
-  begins (suc g) o = absurd (omega (arith, later p g (suc g) (omega arith), r.some g, o.1))
+  begins (suc g) o = absurd (omega (arith, r.follows g (omega (arith, o.0)), r.some g (omega (arith, o.0)), o.1))
 
   -- a key's rows and those before it in its group
   one_more : (g key : ℕ) → (key - first_key p g + 1) * rows_of_group p g ≡ (key - first_key p g) * rows_of_group p g + rows_of_group p g
@@ -59,17 +60,16 @@ module _ (p : Shape) (r : Ranges p) where
   -- a group's last key
   last : (g key : ℕ) → Owns p g key → key + 1 ≡ first_key p (g + 1) → start_of p (g + 1) ≡ place_in (section_of p g) key + rows_of_group p g
   last g key o e =
-      let all : key - first_key p g + 1 ≡ key_count p g = omega (arith, e, first_next p g, o.1) in
+      let all : key - first_key p g + 1 ≡ key_count p g = omega (arith, e, first_next g o.0, o.1) in
       omega (arith, start_next p g, ap (λ n. n * rows_of_group p g) all, one_more g key)
 
   -- the next group's first key
   crossing : (g k key : ℕ) → g < k → Owns p g key → Owns p k (key + 1) → place_in (section_of p k) (key + 1) ≡ place_in (section_of p g) key + rows_of_group p g
   crossing g k key l og ok =
-      let after = later p g k l in
-      let at : key + 1 ≡ first_key p k = omega (arith, after, og.2, ok.1) in
+      let at : key + 1 ≡ first_key p k = omega (arith, later p r.follows g k l (omega (arith, ok.0)), og.2, ok.1) in
       let next : k ≡ g + 1 =
       ⊎_elim
-      (λ (m : g + 1 < k). absurd (omega (arith, first_next p g, later p (g + 1) k m, r.some (g + 1), og.2, at)))
+      (λ (m : g + 1 < k). absurd (omega (arith, first_next g og.0, later p r.follows (g + 1) k m (omega (arith, ok.0)), r.some (g + 1) (omega (arith, m, ok.0)), og.2, at)))
       (λ (m : k ≤ g + 1). omega (arith, l))
       (cases_lt (g + 1) k) in
       let none : key + 1 - first_key p k ≡ 0 = omega (arith, at) in
@@ -91,14 +91,15 @@ module _ (p : Shape) (r : Ranges p) where
   -- behind the last dealt key nothing is owned
   ends : (g key : ℕ) → Owns p g key → ((k : ℕ) → Owns p k (key + 1) → ⊥) → place_in (section_of p g) key + rows_of_group p g ≡ table_rows p
   ends g key o none =
+      let next = first_next g o.0 in
       let at : key + 1 ≡ first_key p (g + 1) =
       ⊎_elim
       (λ (l : key + 1 < first_key p g + key_count p g). absurd (none g (o.0, omega (arith, o.1), l)))
-      (λ (l : first_key p g + key_count p g ≤ key + 1). omega (arith, l, o.2, first_next p g))
+      (λ (l : first_key p g + key_count p g ≤ key + 1). omega (arith, l, o.2, next))
       (cases_lt (key + 1) (first_key p g + key_count p g)) in
       let top : g + 1 ≡ length p.masks =
       ⊎_elim
-      (λ (l : g + 1 < length p.masks). absurd (none (g + 1) (l, omega (arith, at), omega (arith, at, r.some (g + 1)))))
+      (λ (l : g + 1 < length p.masks). absurd (none (g + 1) (l, omega (arith, at), omega (arith, at, r.some (g + 1) l))))
       (λ (l : length p.masks ≤ g + 1). omega (arith, l, o.0))
       (cases_lt (g + 1) (length p.masks)) in
       sym (last g key o at) ∙ ap (start_of p) top

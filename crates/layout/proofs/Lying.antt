@@ -18,18 +18,19 @@ use Rattle.plan.specs.Groups.{group_of, groups}
 use Rattle.plan.specs.Members.{members}
 use Rattle.plan.specs.View.{view}
 use Rattle.plan.specs.Shape.{Shape}
-use Rattle.plan.specs.Keys.{share, first_key, key_count, in_range, owner_from, owner}
+use Rattle.plan.specs.Keys.{first_key, key_count, in_range, owner_from, owner}
 use Rattle.sizes.proofs.Heights.{keys_most}
+use Rattle.plan.proofs.Owners.{later}
 use Rattle.plan.proofs.Found.{plan_ranges}
 use Rattle.layout.specs.declared.section.Section.{Section}
 use Rattle.layout.specs.Part.{part_rows}
 use Rattle.layout.proofs.Few.{part_few}
 use Rattle.layout.proofs.Joined.{start_none, first_next, start_next}
-use Rattle.layout.specs.Table.{rows_of_group, start_of, section_of, table_rows, find, by_owner, in_table}
+use Rattle.layout.specs.Table.{rows_of_group, start_of, section_of, unused, table_rows, find, by_owner, in_table}
 
--- a section without keys is never found
+-- unused sections are never found
 abbrev Bare : List Section → Type 0
-Bare xs = (j : ℕ) (d : Section) → j < length xs → (get_or xs j d).count ≡ 0
+Bare xs = (j : ℕ) (d : Section) → j < length xs → get_or xs j d ≡ unused
 
 no_key : (first count key : ℕ) → count ≡ 0 → in_range first count key ≡ false
 no_key first count key e =
@@ -41,13 +42,13 @@ no_key first count key e =
 find_bare : (xs : List Section) → Bare xs → (key : ℕ) → find xs key ≡ None
 find_bare [] b key = refl
 find_bare (x ∷ xs) b key =
-    cond-false (in_range x.first x.count key) (Some x) (find xs key) (no_key x.first x.count key (b 0 x (omega arith)))
+    cond-false (in_range x.first x.count key) (Some x) (find xs key) (no_key x.first x.count key (ap (λ s. s.count) (b 0 x (omega arith))))
     ∙ find_bare xs (λ j d l. b (suc j) d (omega arith)) key
 
--- sections of k groups from g on, and bare ones behind them
+-- sections of k groups from g on, and unused ones behind them
 pub find_owner : (p : Shape) (xs : List Section) (g k : ℕ) →
     ((j : ℕ) (d : Section) → j < k → get_or xs j d ≡ section_of p (g + j)) →
-    ((j : ℕ) (d : Section) → k ≤ j → j < length xs → (get_or xs j d).count ≡ 0) → k ≤ length xs →
+    ((j : ℕ) (d : Section) → k ≤ j → j < length xs → get_or xs j d ≡ unused) → k ≤ length xs →
     (key : ℕ) → find xs key ≡ option_map (section_of p) (owner_from p g k key)
 unfolding owner_from
 find_owner p xs g zero there bare few key = find_bare xs (λ j d l. bare j d (omega arith) l) key
@@ -67,12 +68,12 @@ find_owner p (x ∷ xs) g (suc k) there bare few key =
     ∙ sym (ap (option_map (section_of p)) (cond-false (in_range (first_key p g) (key_count p g) key) (Some g) (owner_from p (g + 1) k key) f)))
     (cases_Bool (in_range (first_key p g) (key_count p g) key))
 
--- ---- the sections of the first n groups, in front of a list, with no key behind them
+-- ---- the sections of the first n groups, in front of a list, with unused ones behind them
 abbrev pub Front : Shape → ℕ → List Section → Type 0
 Front p n xs = (j : ℕ) (d : Section) → j < n → get_or xs j d ≡ section_of p j
 
 abbrev pub Behind : ℕ → List Section → Type 0
-Behind n xs = (j : ℕ) (d : Section) → n ≤ j → j < length xs → (get_or xs j d).count ≡ 0
+Behind n xs = (j : ℕ) (d : Section) → n ≤ j → j < length xs → get_or xs j d ≡ unused
 
 pub front_more : (p : Shape) (n : ℕ) (xs : List Section) (s : Section) → n < length xs → s ≡ section_of p n → Front p n xs → Front p (n + 1) (set xs n s)
 front_more p n xs s l e f j d m =
@@ -87,24 +88,28 @@ front_more p n xs s l e f j d m =
 pub behind_less : (n : ℕ) (xs : List Section) (s : Section) → Behind n xs → Behind (n + 1) (set xs n s)
 behind_less n xs s b j d l m =
     let long : length (set xs n s) ≡ length xs = length-set xs n s in
-    ap (λ x. x.count) (get_or-set_other xs n j s d (λ e. omega arith)) ∙ b j d (omega arith) (omega arith)
+    get_or-set_other xs n j s d (λ e. omega arith) ∙ b j d (omega arith) (omega arith)
 
 -- each group has few rows, and so has the table
-pub start_few : (plan : Plan) (n : ℕ) → start_of (view plan) n ≤ first_key (view plan) n * 8723
-start_few plan zero = omega (arith, start_none (view plan))
-start_few plan (suc n) =
+pub start_few : (plan : Plan) (n : ℕ) → n ≤ length (view plan).masks → start_of (view plan) n ≤ first_key (view plan) n * 8723
+start_few plan zero l = omega (arith, start_none (view plan))
+start_few plan (suc n) l =
     let p = view plan in
     let e : suc n ≡ n + 1 = omega arith in
     let wide : key_count p n * rows_of_group p n ≤ key_count p n * 8723 = mul-le-mul_left (key_count p n) (part_few plan.height plan.width (get_or p.masks n 0)) in
-    let next : first_key p (suc n) * 8723 ≡ first_key p n * 8723 + key_count p n * 8723 = ap (λ m. first_key p m * 8723) e ∙ ap (λ x. x * 8723) (first_next p n) ∙ add-mul (first_key p n) (key_count p n) 8723 in
-    omega (arith, start_few plan n, wide, next, ap (start_of p) e, start_next p n)
+    let next : first_key p (suc n) * 8723 ≡ first_key p n * 8723 + key_count p n * 8723 = ap (λ m. first_key p m * 8723) e ∙ ap (λ x. x * 8723) (first_next p (plan_ranges plan) n (omega arith)) ∙ add-mul (first_key p n) (key_count p n) 8723 in
+    omega (arith, start_few plan n (omega arith), wide, next, ap (start_of p) e, start_next p n)
 
 pub start_within : (plan : Plan) (n : ℕ) → n ≤ length (view plan).masks → start_of (view plan) n ≤ 1024 * 8723
 start_within plan n l =
     let p = view plan in
     let r = plan_ranges plan in
-    let up : share p * n ≤ share p * length p.masks = mul-le-mul_left (share p) l in
-    omega (arith, start_few plan n, up, r.rest, keys_most plan.height)
+    let up : first_key p n ≤ first_key p (length p.masks) =
+    ⊎_elim
+    (λ (b : n < length p.masks). omega (arith, later p r.follows n (length p.masks) b (omega arith)))
+    (λ (e : length p.masks ≤ n). let same : n ≡ length p.masks = omega arith in omega (arith, ap (first_key p) same))
+    (cases_lt n (length p.masks)) in
+    omega (arith, start_few plan n l, up, r.rest, keys_most plan.height)
 
 -- the rows of the first n groups
 pub rows_sum : (p : Shape) (n : ℕ) → sum_by (λ (g : Group). g.count * part_rows p.height p.width (length (members g.mask))) (map (group_of p) (range_with_len 0 n)) ≡ start_of p n
@@ -136,14 +141,14 @@ pub record Laid (p : Shape) (n : ℕ) (all : List Section) (start : ℕ) : Type 
   pub behind : Behind n all
   pub at : start ≡ start_of p n
 
--- no group yet: each section has no key
-pub laid_none : (p : Shape) (none : Section) → none.count ≡ 0 → Laid p 0 (replicate 70 none) 0
+-- no group yet: each section is unused
+pub laid_none : (p : Shape) (none : Section) → none ≡ unused → Laid p 0 (replicate 70 none) 0
 laid_none p none e =
     let long = length-replicate 70 none in
     record {
       long = long;
       front = λ j d l. absurd (omega arith);
-      behind = λ j d l m. ap (λ (s : Section). s.count) (get_or-replicate 70 j none d (omega arith)) ∙ e;
+      behind = λ j d l m. get_or-replicate 70 j none d (omega arith) ∙ e;
       at = start_none p;
     }
 
@@ -160,9 +165,9 @@ laid_more p n i m all start s laid ei em l e =
     }))
 
 -- the rows of a group that was looked up
-pub group_rows : (plan : Plan) (n : ℕ) (g : Group) (h : Height) (w : Width) (r : ℕ) → h ≡ plan.height → w ≡ plan.width → g ≡ group_of (view plan) n →
+pub group_rows : (plan : Plan) (n : ℕ) (g : Group) (h : Height) (w : Width) (r : ℕ) → levels h ≡ (view plan).height → bits w ≡ (view plan).width → g ≡ group_of (view plan) n →
     r ≡ part_rows (levels h) (bits w) (length (members g.mask)) → r ≡ rows_of_group (view plan) n
-group_rows plan n g h w r eh ew eg er = er ∙ (λ i. part_rows (levels (eh i)) (bits (ew i)) (length (members (eg i).mask)))
+group_rows plan n g h w r eh ew eg er = er ∙ (λ i. part_rows (eh i) (ew i) (length (members (eg i).mask)))
 
 -- a section that was found is its owner's
 pub section_found : (p : Shape) (key : ℕ) (s : Section) → Some s ≡ option_map (section_of p) (owner p key) → (g : ℕ) × (owner p key ≡ Some g) × (s ≡ section_of p g)

@@ -1,4 +1,4 @@
-// The rows of a key's part of the public table, and where each part lies in the table.
+//! The rows of a key's part of the public table, and where each part lies in the table.
 #![tactic(auto)]
 
 mod part;

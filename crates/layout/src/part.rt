@@ -10,15 +10,18 @@ use lms::scheme;
 use plan::{Group, Plan};
 use sizes::{Height, Width};
 
-// How many rows the part of a key of a group has, and its key sheet.
+/// How many rows of 32 bytes the part of a key of a group has, and its key sheet: the prefix, a
+/// check row for each member, a path row for each level, and a row for every position of every
+/// component.
 pub fn part_rows(height: Height, width: Width, group: &Group) -> usize
-    ensures value { result ≡ part_rows (levels height) (bits width) (length (members group.now.mask)) }
+    ensures value { let size = length (members group.now.mask) in
+        result ≡ part_rows (levels height) (bits width) size }
     ensures few { result ≤ 8723 }
 {
     1 + group.size() + height.levels() + scheme::components(width) * scheme::positions(width)
 }
 
-// How many rows a plan's whole public table has.
+/// How many rows of 32 bytes a plan's whole public table has: those of the parts of all dealt keys.
 pub fn table_rows(plan: &Plan) -> usize
     ensures value { result ≡ table_rows (view plan.now) }
     ensures few { result ≤ 1024 * 8723 }

@@ -8,11 +8,12 @@ use crate::sections::Sections;
 use plan::Plan;
 use std::ops::Range;
 
-// Which bytes of a buffer of some length are a key's part: none for a key that is not dealt, and in a buffer that has not the whole table's
-// length.
+/// Which bytes of a buffer of some length are a key's part: none for a key that is not dealt, and
+/// none in a buffer that has not the whole table's length. Key and bytes count from 0.
 pub fn part_range(plan: &Plan, key: u32, length: usize) -> Range<usize>
     ensures start { result.start ≡ part_start (view plan.now) key length }
-    ensures end { result.end ≡ part_start (view plan.now) key length + part_size (view plan.now) key length }
+    ensures end { result.end
+        ≡ part_start (view plan.now) key length + part_size (view plan.now) key length }
     ensures inside { (result.start ≤ result.end) × (result.end ≤ length) }
 {
     if length != 32 * table_rows(plan) {

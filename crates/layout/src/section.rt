@@ -3,7 +3,8 @@ ghost use Rattle.std.specs.Prelude.{◌≡◌};
 ghost use Rattle.plan.specs.Keys.{in_range};
 ghost use Rattle.layout.specs.Table.{place_in};
 
-// The keys from `first` on, `count` many, have parts of `rows` rows each; `start` rows lie before the first of them.
+/// The parts of one group's keys, which lie together: the keys from `first` on, `count` many, have
+/// parts of `rows` rows each, and `start` rows of the table lie before the first of them.
 #[derive(Clone, Copy, PartialEq, Eq, Debug, Default)]
 pub struct Section {
     pub first: u32,
@@ -13,14 +14,16 @@ pub struct Section {
 }
 
 impl Section {
-    // Whether a key is one of the section's. That is a group's test, by the same definition; one function for both would take three bare numbers.
+    /// Whether a key is one of the section's.
     pub fn has(&self, key: u32) -> bool
         ensures { result ≡ in_range self.now.first self.now.count key }
     {
+        // A group's test, by the same definition: one function for both would take three numbers.
         self.first <= key && key - self.first < self.count
     }
 
-    // How many rows of the table lie before a key's part; a key below the section's counts as its first.
+    /// How many rows of the table lie before a key's part; a key below the section's counts as its
+    /// first.
     pub fn place(&self, key: u32) -> usize
         ensures { result ≡ place_in self.now key }
     {

@@ -3,7 +3,7 @@ ghost use Rattle.std.specs.Prelude.{◌≡◌, ℕ, ◌<◌, ◌≤◌, length, 
 ghost use Rattle.std.specs.Option.{option_map};
 ghost use Rattle.plan.specs.Keys.{owner};
 ghost use Rattle.plan.specs.View.{view};
-ghost use Rattle.layout.specs.Table.{find, section_of};
+ghost use Rattle.layout.specs.Table.{find, section_of, unused};
 ghost use Rattle.layout.specs.Laws.{Places};
 ghost use Rattle.layout.specs.declared.section.Section.{Section as Kept};
 
@@ -11,19 +11,24 @@ use crate::part::part_rows;
 use crate::section::Section;
 use plan::Plan;
 
-// The sections of the groups stand in front, and the others have no key: a plan has at most 70 groups, and no memory is asked for. They are plain
-// numbers and keep no plan, so that whatever holds them may stand in an enum.
+/// The sections of a plan's groups, group by group, and unused ones behind them: a plan has at most
+/// 70 groups, and no memory is asked for.
 #[derive(Clone, Copy)]
 pub struct Sections {
+    // Plain numbers and no plan, so that whatever holds them may stand in an enum.
     pub all: [Section; 70],
 }
 
 impl Sections {
-    // The sections of a plan: each key has that of its owner, and parts lie in the table by rising key, none over another.
+    /// The sections of a plan: each key has that of its owner, and parts lie in the table by rising
+    /// key, none over another and nothing between them.
     pub fn of(plan: &Plan) -> Sections
-        ensures groups { (g : ℕ) (none : Kept) → g < length (view plan.now).masks → slice_index_or result.all g none ≡ section_of (view plan.now) g }
-        ensures others { (g : ℕ) (none : Kept) → length (view plan.now).masks ≤ g → g < 70 → (slice_index_or result.all g none).count ≡ 0 }
-        ensures owners { (key : ℕ) → find result.all key ≡ option_map (section_of (view plan.now)) (owner (view plan.now) key) }
+        ensures groups { (g : ℕ) (none : Kept) → g < length (view plan.now).masks →
+            slice_index_or result.all g none ≡ section_of (view plan.now) g }
+        ensures others { (g : ℕ) (none : Kept) → length (view plan.now).masks ≤ g → g < 70 →
+            slice_index_or result.all g none ≡ unused }
+        ensures owners { let p = view plan.now in
+            (key : ℕ) → find result.all key ≡ option_map (section_of p) (owner p key) }
         ensures places { Places (view plan.now) }
     {
         let mut all = [Section::default(); 70];
@@ -41,7 +46,7 @@ impl Sections {
         Sections { all }
     }
 
-    // The section that has a key.
+    /// The section that has a key, or none.
     pub fn find(&self, key: u32) -> Option<Section>
         ensures { result ≡ find self.now.all key }
     {

@@ -11,7 +11,8 @@ ChainCut =
     (hashed : List ℕ → List ℕ) (I : List ℕ) (q i : ℕ) (x : List ℕ) (d e : ℕ) → d ≤ e →
     chain hashed I q i d (e - d) (chain hashed I q i 0 d x) ≡ chain hashed I q i 0 e x
 
--- of two different digests, some digit of the first is larger and some is smaller, those of the checksum included
+-- of two different digests, some digit of the first is larger and some is smaller, those of the
+-- checksum included
 abbrev pub ChecksumGuards : Type 0
 ChecksumGuards =
     (width : Width) (Q R : List ℕ) → length Q ≡ 32 → length R ≡ 32 →
@@ -32,8 +33,10 @@ pub record Figures : Type 0 where
   pub chains : map p (1 ∷ 2 ∷ 4 ∷ 8 ∷ []) ≡ 265 ∷ 133 ∷ 67 ∷ 34 ∷ []
   pub shifts : map ls (1 ∷ 2 ∷ 4 ∷ 8 ∷ []) ≡ 7 ∷ 6 ∷ 4 ∷ 0 ∷ []
   -- v digits hold the largest sum, and fewer do not
-  pub enough : (width : Width) → (2 ^ bits width - 1) * u (bits width) < 2 ^ (v (bits width) * bits width)
-  pub least : (width : Width) → 2 ^ ((v (bits width) - 1) * bits width) ≤ (2 ^ bits width - 1) * u (bits width)
+  pub enough : (width : Width) →
+      (2 ^ bits width - 1) * u (bits width) < 2 ^ (v (bits width) * bits width)
+  pub least : (width : Width) →
+      2 ^ ((v (bits width) - 1) * bits width) ≤ (2 ^ bits width - 1) * u (bits width)
   pub sums1 : sum_digits 1 zeros ≡ 1 ∷ 0 ∷ 0 ∷ 0 ∷ 0 ∷ 0 ∷ 0 ∷ 0 ∷ 0 ∷ []
   pub sums2 : sum_digits 2 zeros ≡ 1 ∷ 2 ∷ 0 ∷ 0 ∷ 0 ∷ []
   pub sums4 : sum_digits 4 zeros ≡ 3 ∷ 12 ∷ 0 ∷ []

@@ -1,4 +1,5 @@
--- LM-OTS as RFC 8554 has it, over any hash of 32 bytes (n = 32). I is the identifier and q the number of the one-time key.
+-- LM-OTS as RFC 8554 has it, over any hash of 32 bytes (n = 32). I is the identifier and q the
+-- number of the one-time key.
 use Rattle.std.specs.Prelude.{ℕ, zero, suc, ◌+◌, ◌-◌, ◌*◌, ◌/◌, ◌%◌, ◌^◌, cond, List, ◌++◌, ◌==◌, bit_and, slice_index}
 use Rattle.rows.specs.Bytes.{u8str, u16str, u32str, rows}
 
@@ -6,7 +7,8 @@ use Rattle.rows.specs.Bytes.{u8str, u16str, u32str, rows}
 abbrev pub coef : ℕ → List ℕ → ℕ → ℕ
 coef w s i = bit_and (2 ^ w - 1) (slice_index s (i * w / 8) / 2 ^ (8 - (w * (i % (8 / w)) + w)))
 
--- ---- 4.1 and Appendix B: u digits of a digest and v of its checksum, p in all; the checksum is shifted left by ls
+-- ---- 4.1 and Appendix B: u digits of a digest and v of its checksum, p in all; the checksum is
+-- shifted left by ls
 abbrev pub u : ℕ → ℕ
 u w = 256 / w
 
@@ -45,9 +47,10 @@ module _ (hashed : List ℕ → List ℕ) (I : List ℕ) where
   unfoldable pub digest : ℕ → List ℕ → List ℕ → List ℕ
   digest q C message = hashed (I ++ u32str q ++ u16str 0x8181 ++ C ++ message)
 
-  -- ---- 4.6, Algorithm 4b: the candidate for the one-time public key, from the rows y of a signature
+  -- ---- 4.6, Algorithm 4b: the candidate for the one-time public key, from a signature's rows y
   abbrev pub candidate_key : ℕ → ℕ → List ℕ → (ℕ → List ℕ) → List ℕ
-  candidate_key w q Q y = one_time_key q (rows (p w) (λ i. chain q i (digit w Q i) (2 ^ w - 1 - digit w Q i) (y i)))
+  candidate_key w q Q y =
+      one_time_key q (rows (p w) (λ i. chain q i (digit w Q i) (2 ^ w - 1 - digit w Q i) (y i)))
 
   -- ---- Appendix A: a one-time key from a seed
   module _ (seed : List ℕ) where

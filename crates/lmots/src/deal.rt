@@ -1,9 +1,11 @@
 // All rows of a one-time key, for whoever deals them out.
 ghost use Rattle.std.specs.Prelude.{◌≡◌, ℕ, ◌+◌, ◌*◌, ◌^◌, ◌<◌, ◌≤◌, ◌⊎◌, [], length, MatchResult, ◌≢◌, slice_index_or};
+ghost use Rattle.std.specs.Result.{result_err};
+ghost use Rattle.checks.specs.Checks.{first_refusal};
 ghost use Rattle.rows.specs.Bytes.{row_at};
 ghost use Rattle.sizes.specs.Sizes.{bits};
 ghost use Rattle.lmots.specs.LmOts.{X, p, positions};
-ghost use Rattle.lmots.specs.declared.refusal.Refusal.TheVariants.{Buffer};
+ghost use Rattle.lmots.specs.Refusals.{position_checks};
 
 use crate::digits::{chain_count, position_count};
 use crate::lanes::Lanes;
@@ -12,7 +14,8 @@ use hash::Hash;
 use rows::{Origin, Row, put_row};
 use sizes::Width;
 
-// Writes the lanes' rows at position j of the chains from `first` on, as far as there are chains. By number, since they lie apart.
+// Writes the lanes' rows at position j of the chains from `first` on, as far as there are chains.
+// By number, since they lie apart.
 fn write_lanes(out: &mut [u8], width: Width, first: usize, j: usize, rows: &[Row; 8])
     requires room { length out.old ≡ 32 * (p (bits width) * 2 ^ bits width) }
     requires inside { j < 2 ^ bits width }
@@ -35,7 +38,8 @@ fn write_chains<H: Hash>(origin: Origin, width: Width, q: u32, first: usize, out
     requires room { length out.old ≡ 32 * (p (bits width) * 2 ^ bits width) }
     requires low { first ≤ p (bits width) }
     ensures new { (l j : ℕ) → l < 8 → first + l < p (bits width) → j < 2 ^ bits width →
-        row_at ((first + l) * 2 ^ bits width + j) out.new ≡ X H.Hash.hashed origin.id.bytes origin.seed.bytes q (first + l) j }
+        row_at ((first + l) * 2 ^ bits width + j) out.new
+        ≡ X H.hashed origin.id.bytes origin.seed.bytes q (first + l) j }
     ensures old { (i j : ℕ) → i < first → j < 2 ^ bits width →
         row_at (i * 2 ^ bits width + j) out.new ≡ row_at (i * 2 ^ bits width + j) out.old }
 {
@@ -49,16 +53,18 @@ fn write_chains<H: Hash>(origin: Origin, width: Width, q: u32, first: usize, out
     }
 }
 
-// Writes the row at every position of every chain of key q, chain by chain, over all of a buffer.
+/// Writes the row at every position of every chain of key q, chain by chain, over all of a buffer.
 pub fn write_positions<H: Hash>(
     origin: Origin,
     width: Width,
     q: u32,
     out: &mut [u8],
 ) -> Result<(), Refusal>
-    ensures { MatchResult result
-        (λ _. (length out.old ≡ 32 * (p (bits width) * 2 ^ bits width)) × (out.new ≡ positions H.Hash.hashed origin.id.bytes origin.seed.bytes (bits width) q))
-        (λ e. (length out.old ≢ 32 * (p (bits width) * 2 ^ bits width)) × (e ≡ Buffer) × (out.new ≡ out.old)) }
+    ensures answer { result_err result
+        ≡ first_refusal (position_checks (bits width) (length out.old)) }
+    ensures written { MatchResult result
+        (λ _. out.new ≡ positions H.hashed origin.id.bytes origin.seed.bytes (bits width) q)
+        (λ _. out.new ≡ out.old) }
 {
     let count = chain_count(width);
     if out.len() != 32 * (count * position_count(width)) {

@@ -22,12 +22,12 @@ pub(crate) struct Lanes<H: Hash> {
     id: Identifier,
     head: H,
     chains: [Chain; 8],
-    ghost goes_on: { (m : List ℕ) → H.Hash.closed (H.Hash.fed (H.Hash.state head) m) ≡ H.Hash.hashed (id.bytes ++ m) },
+    ghost goes_on: { (m : List ℕ) → H.closed (H.fed (H.state head) m) ≡ H.hashed (id.bytes ++ m) },
 }
 
 // The hash's state behind an identifier.
 fn behind<H: Hash>(id: Identifier) -> H
-    ensures { (m : List ℕ) → H.Hash.closed (H.Hash.fed (H.Hash.state result) m) ≡ H.Hash.hashed (id.bytes ++ m) }
+    ensures { (m : List ℕ) → H.closed (H.fed (H.state result) m) ≡ H.hashed (id.bytes ++ m) }
 {
     let mut head = H::start();
     head.feed(&id.bytes());
@@ -82,13 +82,15 @@ impl<H: Hash> Lanes<H> {
 
     // One step in each lane, all with the byte j.
     pub(crate) fn step(&self, j: u8, rows: &[Row; 8]) -> [Row; 8]
-        ensures { (l : ℕ) → l < 8 → slice_index_or result l [] ≡ H.Hash.hashed (self.now.id.bytes
-            ++ u32str (chain_at l self.now.chains).q ++ u16str (chain_at l self.now.chains).i ++ u8str j ++ slice_index_or rows.now l []) }
+        ensures { (l : ℕ) → l < 8 → slice_index_or result l [] ≡ H.hashed (self.now.id.bytes
+            ++ u32str (chain_at l self.now.chains).q ++ u16str (chain_at l self.now.chains).i
+            ++ u8str j ++ slice_index_or rows.now l []) }
     {
         let tails = array::from_fn(
             |l| -> [u8; 64]
                 requires { l < 8 }
-                ensures { take 39 result ≡ u32str (chain_at l self.entry.now.chains).q ++ u16str (chain_at l self.entry.now.chains).i
+                ensures { take 39 result ≡ u32str (chain_at l self.entry.now.chains).q
+                    ++ u16str (chain_at l self.entry.now.chains).i
                     ++ u8str j ++ slice_index_or rows.entry.now l [] }
             { tail(self.chains[l], j, &rows[l]) },
         );
@@ -97,7 +99,8 @@ impl<H: Hash> Lanes<H> {
 
     // The starts of the chains.
     pub(crate) fn starts(&self, seed: Seed) -> [Row; 8]
-        ensures { (l : ℕ) → l < 8 → slice_index_or result l [] ≡ start H.Hash.hashed self.now.id.bytes seed.bytes
+        ensures { (l : ℕ) → l < 8 → slice_index_or result l []
+            ≡ start H.hashed self.now.id.bytes seed.bytes
             (chain_at l self.now.chains).q (chain_at l self.now.chains).i }
     {
         self.step(START, &[seed.bytes(); 8])
@@ -105,10 +108,12 @@ impl<H: Hash> Lanes<H> {
 
     // The rows at one position of the chains.
     pub(crate) fn rows_at(&self, seed: Seed, position: u8) -> [Row; 8]
-        ensures { (l : ℕ) → l < 8 → slice_index_or result l [] ≡ X H.Hash.hashed self.now.id.bytes seed.bytes
+        ensures { (l : ℕ) → l < 8 → slice_index_or result l []
+            ≡ X H.hashed self.now.id.bytes seed.bytes
             (chain_at l self.now.chains).q (chain_at l self.now.chains).i position }
     {
-        // Not by `fold`: a step tells its eight rows one by one, and is no function of the rows that a fold could repeat.
+        // Not by `fold`: a step tells its eight rows one by one, and is no function of the rows
+        // that a fold could repeat.
         let mut rows = self.starts(seed);
         for j in 0..position {
             rows = self.step(j, &rows);

@@ -1,4 +1,4 @@
-// LM-OTS, the one-time signatures of RFC 8554, over any hash.
+//! LM-OTS, the one-time signatures of RFC 8554, over any hash of 32 bytes.
 #![tactic(auto)]
 
 mod deal;
@@ -12,7 +12,7 @@ mod selected;
 mod single;
 
 pub use deal::write_positions;
-pub use digits::{chain_count, position, position_count};
+pub use digits::{chain_count, position, position_count, selection};
 pub use keys::{candidate_key, public_keys};
 pub use laws::{chain_cut, checksum_guards, figures_hold};
 pub use opening::opened;

@@ -1,4 +1,5 @@
--- What a grown tree stands for: its sizes and its origin, and the path, the root and the signatures of these.
+-- What a grown tree stands for: its sizes and its origin, and the path, the root and the signatures
+-- of these.
 use Rattle.std.specs.Prelude.{ℕ, List}
 use Rattle.rows.specs.declared.origin.Origin.{Origin}
 use Rattle.sizes.specs.declared.height.Height.{Height}
@@ -22,7 +23,9 @@ abbrev pub grown_path : (List ℕ → List ℕ) → Grown → ℕ → ℕ → Li
 grown_path hashed t = path_of hashed t.origin.id.bytes t.origin.seed.bytes (tall t) (wide t)
 
 abbrev pub grown_root : (List ℕ → List ℕ) → ℕ → ℕ → Grown → List ℕ
-grown_root hashed ots tree t = root hashed ots tree (tall t) (wide t) t.origin.id.bytes t.origin.seed.bytes
+grown_root hashed ots tree t =
+    root hashed ots tree (tall t) (wide t) t.origin.id.bytes t.origin.seed.bytes
 
 abbrev pub grown_signature : (List ℕ → List ℕ) → ℕ → ℕ → Grown → ℕ → List ℕ → List ℕ
-grown_signature hashed ots tree t = signature hashed ots tree (tall t) (wide t) t.origin.id.bytes t.origin.seed.bytes
+grown_signature hashed ots tree t =
+    signature hashed ots tree (tall t) (wide t) t.origin.id.bytes t.origin.seed.bytes

@@ -1,4 +1,5 @@
--- LMS as RFC 8554 has it, over any hash of 32 bytes (m = 32). I is the identifier, q the number of a leaf, h the height and w the width.
+-- LMS as RFC 8554 has it, over any hash of 32 bytes (m = 32). I is the identifier, q the number of
+-- a leaf, h the height and w the width.
 use Rattle.std.specs.Prelude.{ℕ, zero, suc, ◌+◌, ◌-◌, ◌*◌, ◌/◌, ◌%◌, ◌^◌, Bool, false, cond, ◌&&◌, List, ◌++◌, length, Some, None, Option, ◌==◌, bit_xor, nat_le, nat_lt}
 use Rattle.std.specs.Str.{bytes_eq}
 use Rattle.rows.specs.Bytes.{u16str, u32str, str_to_u32, part, row_at, rows}
@@ -12,7 +13,8 @@ module _ (hashed : List ℕ → List ℕ) (I : List ℕ) where
   unfoldable pub inner_node : ℕ → List ℕ → List ℕ → List ℕ
   inner_node r left right = hashed (I ++ u32str r ++ u16str 0x8383 ++ left ++ right)
 
-  -- ---- 5.4.2, Algorithm 6a: the node n levels above the leaf r, from the leaf's value and the rows of a path
+  -- ---- 5.4.2, Algorithm 6a: the node n levels above the leaf r, from the leaf's value and the
+  -- rows of a path
   unfoldable pub climbed : (ℕ → List ℕ) → ℕ → List ℕ → ℕ → List ℕ
   climbed path r leaf zero = leaf
   climbed path r leaf (suc n) =
@@ -23,7 +25,8 @@ module _ (hashed : List ℕ → List ℕ) (I : List ℕ) where
   -- the candidate for the root, from the prefix C, the rows y and the path of a signature
   abbrev pub candidate_root : ℕ → ℕ → ℕ → List ℕ → List ℕ → (ℕ → List ℕ) → (ℕ → List ℕ) → List ℕ
   candidate_root h w q C message y path =
-      climbed path (2 ^ h + q) (leaf_node (2 ^ h + q) (candidate_key hashed I w q (digest hashed I q C message) y)) h
+      climbed path (2 ^ h + q)
+      (leaf_node (2 ^ h + q) (candidate_key hashed I w q (digest hashed I q C message) y)) h
 
   module _ (seed : List ℕ) where
     -- ---- 5.3: T[r], for a node r that is k levels above the leaves
@@ -44,20 +47,34 @@ tree_code tree h = tree + cond (h == 5) 0 1
 
 -- what a code stands for
 abbrev pub width_of : ℕ → ℕ → Option ℕ
-width_of ots c = cond (c == ots) (Some 1) (cond (c == ots + 1) (Some 2) (cond (c == ots + 2) (Some 4) (cond (c == ots + 3) (Some 8) None)))
+width_of ots c =
+    cond (c == ots) (Some 1)
+    (cond (c == ots + 1) (Some 2)
+    (cond (c == ots + 2) (Some 4)
+    (cond (c == ots + 3) (Some 8) None)))
 
 abbrev pub height_of : ℕ → ℕ → Option ℕ
 height_of tree c = cond (c == tree) (Some 5) (cond (c == tree + 1) (Some 10) None)
 
--- ---- 5.3 and 5.4: the layout of a root, of identifier I and topmost node N, and of a signature, of prefix C, rows Y and path P
+-- ---- 5.3 and 5.4: the layout of a root, of identifier I and topmost node N, and of a signature,
+-- of prefix C, rows Y and path P
 abbrev pub root_layout : ℕ → ℕ → ℕ → ℕ → List ℕ → List ℕ → List ℕ
 root_layout ots tree h w I N = u32str (tree_code tree h) ++ u32str (ots_code ots w) ++ I ++ N
 
 abbrev pub layout : ℕ → ℕ → ℕ → ℕ → ℕ → List ℕ → List ℕ → List ℕ → List ℕ
-layout ots tree h w q C Y P = u32str q ++ u32str (ots_code ots w) ++ C ++ Y ++ u32str (tree_code tree h) ++ P
+layout ots tree h w q C Y P =
+    u32str q ++ u32str (ots_code ots w) ++ C ++ Y ++ u32str (tree_code tree h) ++ P
+
+-- how many bytes these have
+abbrev pub root_length : ℕ
+root_length = 56
 
 abbrev pub signature_length : ℕ → ℕ → ℕ
 signature_length h w = 44 + 32 * p w + 32 * h
+
+-- the most bytes of a message; the RFC has no bound
+abbrev pub longest : ℕ
+longest = 65536
 
 -- ---- 5.4.2, Algorithms 6 and 6a, at the height and the width for which the root's codes stand
 unfoldable pub accepts_as : (List ℕ → List ℕ) → List ℕ → List ℕ → List ℕ → ℕ → ℕ → Bool
@@ -84,14 +101,18 @@ module _ (hashed : List ℕ → List ℕ) (ots tree : ℕ) where
   -- ---- 5.4.1: the signature of a message by leaf q under the prefix C
   unfoldable pub signature_with : ℕ → ℕ → List ℕ → List ℕ → ℕ → List ℕ → List ℕ → List ℕ
   signature_with h w I seed q C message =
-      layout ots tree h w q C (rows (p w) (λ i. X hashed I seed q i (digit w (digest hashed I q C message) i))) (rows h (path_of hashed I seed h w q))
+      layout ots tree h w q C
+      (rows (p w) (λ i. X hashed I seed q i (digit w (digest hashed I q C message) i)))
+      (rows h (path_of hashed I seed h w q))
 
-  -- and under the prefix that this ring makes of the seed by the formula of Appendix A, where the RFC leaves it free
+  -- and under the prefix that this ring makes of the seed by the formula of Appendix A, where the
+  -- RFC leaves it free
   abbrev pub signature : ℕ → ℕ → List ℕ → List ℕ → ℕ → List ℕ → List ℕ
   signature h w I seed q message = signature_with h w I seed q (prefix hashed I seed q) message
 
   -- ---- 5.4.2: whether a root accepts a signature of a message
   abbrev pub accepts : List ℕ → List ℕ → List ℕ → Bool
   accepts key message sig =
-      nat_le (length message) 65536 && length key == 56
-      && given (height_of tree (str_to_u32 (part 0 4 key))) (λ h. given (width_of ots (str_to_u32 (part 4 4 key))) (accepts_as hashed key message sig h))
+      nat_le (length message) longest && length key == root_length
+      && given (height_of tree (str_to_u32 (part 0 4 key)))
+      (λ h. given (width_of ots (str_to_u32 (part 4 4 key))) (accepts_as hashed key message sig h))

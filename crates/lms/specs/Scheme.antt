@@ -1,5 +1,6 @@
 -- What a ring needs of a one-time scheme and its tree, in names of its own.
--- I is the identifier, q the number of a key, h the height, w the width; ots and tree are the bases of the hash's codes.
+-- I is the identifier, q the number of a key, h the height, w the width; ots and tree are the bases
+-- of the hash's codes.
 use Rattle.std.specs.Prelude.{◌≡◌, ℕ, ◌^◌, ◌<◌, ◌≤◌, Bool, true, List, length}
 use Rattle.rows.specs.Bytes.{rows}
 use Rattle.sizes.specs.declared.height.Height.{Height}
@@ -18,18 +19,22 @@ components w = one.p w
 abbrev pub positions : ℕ → ℕ
 positions w = 2 ^ w
 
--- the longest message
+-- the most bytes of a message
 abbrev pub longest : ℕ
-longest = 65536
+longest = lms.longest
 
 -- the position that a digest selects in component i
 abbrev pub position : ℕ → List ℕ → ℕ → ℕ
 position = one.digit
 
--- how many bytes a signature has, and those that a key's number, a prefix, one row of each component and a path make up
+-- how many bytes a root and a signature have
+abbrev pub root_size : ℕ
+root_size = lms.root_length
+
 abbrev pub signature_size : ℕ → ℕ → ℕ
 signature_size = lms.signature_length
 
+-- the signature that a key's number, a prefix, one row of each component and a path make up
 abbrev pub assembled : ℕ → ℕ → ℕ → ℕ → ℕ → List ℕ → List ℕ → List ℕ → List ℕ
 assembled = lms.layout
 
@@ -38,7 +43,7 @@ module _ (hashed : List ℕ → List ℕ) where
   abbrev pub digest : List ℕ → ℕ → List ℕ → List ℕ → List ℕ
   digest = one.digest hashed
 
-  -- a key's prefix, its row at a position of a component, all these rows, and its path level by level
+  -- a key's prefix, its row at a position of a component, all these rows, and its path by level
   abbrev pub prefix : List ℕ → List ℕ → ℕ → List ℕ
   prefix = one.prefix hashed
 
@@ -70,18 +75,35 @@ module _ (hashed : List ℕ → List ℕ) where
 pub record Holds (hashed : List ℕ → List ℕ) (ots tree : ℕ) : Type 0 where
   -- the dealer's signature is the assembly of key, prefix, selected components and path
   pub assembles : (h w : ℕ) (I seed : List ℕ) (q : ℕ) (message : List ℕ) →
+      let C = prefix hashed I seed q in
       signature hashed ots tree h w I seed q message
-      ≡ assembled ots tree h w q (prefix hashed I seed q) (selected hashed I seed w q (digest hashed I q (prefix hashed I seed q) message)) (rows h (path_row hashed I seed h w q))
+      ≡ assembled ots tree h w q C (selected hashed I seed w q (digest hashed I q C message))
+      (rows h (path_row hashed I seed h w q))
   -- and the verdict on it is yes
-  pub verifies : (height : Height) (width : Width) (I seed : List ℕ) → length I ≡ 16 → (q : ℕ) → q < keys (levels height) → (message : List ℕ) → length message ≤ longest →
-      verdict hashed ots tree (root hashed ots tree (levels height) (bits width) I seed) message (signature hashed ots tree (levels height) (bits width) I seed q message) ≡ true
+  pub verifies : (height : Height) (width : Width) (I seed : List ℕ) → length I ≡ 16 →
+      (q : ℕ) → q < keys (levels height) → (message : List ℕ) → length message ≤ longest →
+      verdict hashed ots tree (root hashed ots tree (levels height) (bits width) I seed) message
+      (signature hashed ots tree (levels height) (bits width) I seed q message) ≡ true
   -- a position lies on its component
   pub within : (w : ℕ) (Q : List ℕ) (i : ℕ) → position w Q i < positions w
   -- every row has 32 bytes
   pub prefix_long : (I seed : List ℕ) (q : ℕ) → length (prefix hashed I seed q) ≡ 32
   pub component_long : (I seed : List ℕ) (q i j : ℕ) → length (component hashed I seed q i j) ≡ 32
   pub path_long : (I seed : List ℕ) (h w q k : ℕ) → length (path_row hashed I seed h w q k) ≡ 32
-  pub digest_long : (I : List ℕ) (q : ℕ) (C message : List ℕ) → length (digest hashed I q C message) ≡ 32
+  pub digest_long : (I : List ℕ) (q : ℕ) (C message : List ℕ) →
+      length (digest hashed I q C message) ≡ 32
   -- and the whole have their lengths
-  pub root_long : (h w : ℕ) (I seed : List ℕ) → length I ≡ 16 → length (root hashed ots tree h w I seed) ≡ 56
-  pub signature_long : (h w : ℕ) (I seed : List ℕ) → length I ≡ 16 → (q : ℕ) (message : List ℕ) → length (signature hashed ots tree h w I seed q message) ≡ signature_size h w
+  pub root_long : (h w : ℕ) (I seed : List ℕ) → length I ≡ 16 →
+      length (root hashed ots tree h w I seed) ≡ root_size
+  pub signature_long : (h w : ℕ) (I seed : List ℕ) → length I ≡ 16 → (q : ℕ) (message : List ℕ) →
+      length (signature hashed ots tree h w I seed q message) ≡ signature_size h w
+  -- the verdict is yes only on a root and a signature of these lengths
+  pub root_sized : (key message sig : List ℕ) → verdict hashed ots tree key message sig ≡ true →
+      length key ≡ root_size
+  pub signature_sized : (key message sig : List ℕ) →
+      verdict hashed ots tree key message sig ≡ true →
+      (height : Height) × (width : Width)
+      × (length sig ≡ signature_size (levels height) (bits width))
+  -- and on a message that is not too long
+  pub bounded : (key message sig : List ℕ) → verdict hashed ots tree key message sig ≡ true →
+      length message ≤ longest

@@ -1,5 +1,6 @@
 // The codes of a height and of a width, and back.
-// They are no `From` or `TryFrom`: a code depends on the hash's base too, and these convert one value alone.
+// They are no `From` or `TryFrom`: a code depends on the hash's base too, and these convert one
+// value alone.
 ghost use Rattle.std.specs.Prelude.{◌≡◌};
 ghost use Rattle.std.specs.Option.{option_map};
 ghost use Rattle.sizes.specs.Sizes.{bits, levels};
@@ -10,7 +11,7 @@ use sizes::{Height, Width};
 
 // The LM-OTS code of a width.
 pub(crate) fn ots_code<H: Hash>(width: Width) -> u32
-    ensures { result ≡ ots_code H.Hash.ots (bits width) }
+    ensures { result ≡ ots_code H.ots (bits width) }
 {
     let more = match width {
         Width::One => 0,
@@ -23,7 +24,7 @@ pub(crate) fn ots_code<H: Hash>(width: Width) -> u32
 
 // The tree code of a height.
 pub(crate) fn tree_code<H: Hash>(height: Height) -> u32
-    ensures { result ≡ tree_code H.Hash.tree (levels height) }
+    ensures { result ≡ tree_code H.tree (levels height) }
 {
     let more = match height {
         Height::Five => 0,
@@ -34,7 +35,7 @@ pub(crate) fn tree_code<H: Hash>(height: Height) -> u32
 
 // The height for which a tree code stands.
 pub(crate) fn height_of<H: Hash>(code: u32) -> Option<Height>
-    ensures { option_map levels result ≡ height_of H.Hash.tree code }
+    ensures { option_map levels result ≡ height_of H.tree code }
 {
     match code.checked_sub(H::tree_base() as u32)? {
         0 => Some(Height::Five),
@@ -45,7 +46,7 @@ pub(crate) fn height_of<H: Hash>(code: u32) -> Option<Height>
 
 // The width for which an LM-OTS code stands.
 pub(crate) fn width_of<H: Hash>(code: u32) -> Option<Width>
-    ensures { option_map bits result ≡ width_of H.Hash.ots code }
+    ensures { option_map bits result ≡ width_of H.ots code }
 {
     match code.checked_sub(H::ots_base() as u32)? {
         0 => Some(Width::One),

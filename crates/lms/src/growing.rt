@@ -17,7 +17,8 @@ use std::marker::PhantomData;
 fn fill_eight<H: Hash>(id: Identifier, r: usize, keys: &[Row; 8], nodes: &mut [Row])
     requires room { r + 8 ≤ length nodes.old }
     requires low { r < 2 ^ 16 }
-    ensures new { (l : ℕ) → l < 8 → slice_index_or nodes.new (r + l) [] ≡ leaf_node H.Hash.hashed id.bytes (r + l) (slice_index_or keys.now l []) }
+    ensures new { (l : ℕ) → l < 8 → slice_index_or nodes.new (r + l) []
+        ≡ leaf_node H.hashed id.bytes (r + l) (slice_index_or keys.now l []) }
     ensures old { (m : ℕ) → m < r → slice_index_or nodes.new m [] ≡ slice_index_or nodes.old m [] }
 {
     for (l, key) in keys.iter().enumerate() {
@@ -28,7 +29,8 @@ fn fill_eight<H: Hash>(id: Identifier, r: usize, keys: &[Row; 8], nodes: &mut [R
 // All leaves.
 fn fill_leaves<H: Hash>(origin: Origin, height: Height, width: Width, nodes: &mut [Row])
     requires { length nodes.old ≡ 2 ^ levels height * 2 }
-    ensures { Filled H.Hash.hashed origin.id.bytes origin.seed.bytes (levels height) (bits width) (2 ^ levels height) nodes.new }
+    ensures { Filled H.hashed origin.id.bytes origin.seed.bytes (levels height) (bits width)
+        (2 ^ levels height) nodes.new }
 {
     let first = height.keys();
     for key in (0..first).step_by(8) {
@@ -41,7 +43,8 @@ fn fill_leaves<H: Hash>(origin: Origin, height: Height, width: Width, nodes: &mu
 fn above<H: Hash>(id: Identifier, r: usize, nodes: &[Row]) -> Row
     requires inside { 2 * r + 1 < length nodes.now }
     requires low { r < 2 ^ 16 }
-    ensures { result ≡ inner_node H.Hash.hashed id.bytes r (slice_index_or nodes.now (2 * r) []) (slice_index_or nodes.now (2 * r + 1) []) }
+    ensures { result ≡ inner_node H.hashed id.bytes r
+        (slice_index_or nodes.now (2 * r) []) (slice_index_or nodes.now (2 * r + 1) []) }
 {
     inner::<H>(id, r as u32, &nodes[2 * r], &nodes[2 * r + 1])
 }
@@ -49,8 +52,9 @@ fn above<H: Hash>(id: Identifier, r: usize, nodes: &[Row]) -> Row
 // All nodes above the leaves, from the lowest up to the root.
 fn fill_inner<H: Hash>(id: Identifier, height: Height, nodes: &mut [Row])
     requires { length nodes.old ≡ 2 ^ levels height * 2 }
-    ensures { (seed : List ℕ) (w : ℕ) → Filled H.Hash.hashed id.bytes seed (levels height) w (2 ^ levels height) nodes.old →
-        Filled H.Hash.hashed id.bytes seed (levels height) w 1 nodes.new }
+    ensures { (seed : List ℕ) (w : ℕ) →
+        Filled H.hashed id.bytes seed (levels height) w (2 ^ levels height) nodes.old →
+        Filled H.hashed id.bytes seed (levels height) w 1 nodes.new }
 {
     // A node's number is hashed, and names the two nodes below it in the same slice.
     for r in (1..height.keys() as usize).rev() {
@@ -59,7 +63,7 @@ fn fill_inner<H: Hash>(id: Identifier, height: Height, nodes: &mut [Row])
 }
 
 impl<H: Hash> Tree<H> {
-    // The tree of an identifier and a seed, unless there is no memory for it.
+    /// The tree of an identifier and a seed, unless there is no memory for it.
     pub fn grow(
         heap: Global,
         height: Height,

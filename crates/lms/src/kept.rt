@@ -6,6 +6,8 @@ use rows::{Origin, Row};
 use sizes::{Height, Width};
 use std::marker::{Model, PhantomData};
 
+/// A grown tree. Contracts see its height, its width and its origin, of which its nodes are those of
+/// RFC 8554, 5.3.
 // Node r stands at place r; place 0 is unused, and the root is node 1.
 #[derive(Drop)]
 pub struct Tree<H: Hash> {
@@ -25,11 +27,12 @@ impl<H: Hash> Model for Tree<H> {
 
     ghost view = { λ t. record { height = t.height; width = t.width; origin = t.origin } };
 
-    ghost invariant = { λ t. Whole H.Hash.hashed t.origin.id.bytes t.origin.seed.bytes (levels t.height) (bits t.width) t.nodes.items };
+    ghost invariant = { λ t. Whole H.hashed t.origin.id.bytes t.origin.seed.bytes
+        (levels t.height) (bits t.width) t.nodes.items };
 }
 
 impl<H: Hash> Tree<H> {
-    // What the tree was grown from.
+    /// What the tree was grown from.
     pub fn origin(&self) -> Origin
         ensures { result ≡ self.now.origin }
     {

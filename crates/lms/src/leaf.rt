@@ -22,9 +22,11 @@ pub(crate) struct Leaf<'a, H: Hash> {
 impl<H: Hash> Tree<H> {
     // The leaf of a key, where the tree has it.
     pub(crate) fn leaf(&self, key: u32) -> Option<Leaf<'_, H>>
-        ensures { MatchOption result (2 ^ tall self.now ≤ key) (λ l. (l.tree.now ≡ self.now) × (l.key ≡ key)) }
+        ensures { MatchOption result (2 ^ tall self.now ≤ key)
+            (λ l. (l.tree.now ≡ self.now) × (l.key ≡ key)) }
     {
-        // Not by `then_some`: the leaf is made behind the test, since its type says that the tree has the key.
+        // Not by `then_some`: the leaf is made behind the test, since its type says that the tree
+        // has the key.
         if key < self.height.keys() {
             Some(Leaf { tree: self, key })
         } else {
@@ -37,7 +39,7 @@ impl<H: Hash> Leaf<'_, H> {
     // The row of the path at one level.
     pub(crate) fn sibling(&self, level: usize) -> Row
         requires { level < tall self.now.tree.now }
-        ensures { result ≡ grown_path H.Hash.hashed self.now.tree.now self.now.key level }
+        ensures { result ≡ grown_path H.hashed self.now.tree.now self.now.key level }
     {
         let tree = self.tree;
         let r = (tree.height.keys() + self.key) as usize;
@@ -47,10 +49,11 @@ impl<H: Hash> Leaf<'_, H> {
     // All rows of the path.
     pub(crate) fn write_siblings(&self, out: &mut [u8])
         requires { length out.old ≡ 32 * tall self.now.tree.now }
-        ensures { out.new ≡ rows (tall self.now.tree.now) (grown_path H.Hash.hashed self.now.tree.now self.now.key) }
+        ensures { out.new ≡
+            rows (tall self.now.tree.now) (grown_path H.hashed self.now.tree.now self.now.key) }
     {
         let tree = self.tree;
-        // Rows are written by number, since a proof does not know what a slice holds after `chunks_exact_mut`.
+        // By number, since a proof does not know what a slice holds after `chunks_exact_mut`.
         for k in 0..tree.height.levels() {
             put_row(out, k, &self.sibling(k));
         }
@@ -58,8 +61,10 @@ impl<H: Hash> Leaf<'_, H> {
 
     // The signature of a message.
     pub(crate) fn write_signature(&self, message: &[u8], out: &mut [u8])
-        requires { length out.old ≡ signature_length (tall self.now.tree.now) (wide self.now.tree.now) }
-        ensures laid { out.new ≡ grown_signature H.Hash.hashed H.Hash.ots H.Hash.tree self.now.tree.now self.now.key message.now }
+        requires { length out.old
+            ≡ signature_length (tall self.now.tree.now) (wide self.now.tree.now) }
+        ensures laid { out.new
+            ≡ grown_signature H.hashed H.ots H.tree self.now.tree.now self.now.key message.now }
         ensures named { length self.now.tree.now.origin.id.bytes ≡ 16 }
     {
         let tree = self.tree;

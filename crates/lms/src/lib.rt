@@ -1,4 +1,4 @@
-// LMS, the tree of one-time keys of RFC 8554, over any hash.
+//! LMS, the tree of one-time keys of RFC 8554, over any hash of 32 bytes.
 #![tactic(auto)]
 
 mod codes;

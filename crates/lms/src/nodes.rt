@@ -13,7 +13,7 @@ const D_INTR: u16 = 0x8383;
 
 // The node of a leaf, from its one-time public key.
 pub(crate) fn leaf<H: Hash>(id: Identifier, r: u32, key: &Row) -> Row
-    ensures { result ≡ leaf_node H.Hash.hashed id.bytes r key.now }
+    ensures { result ≡ leaf_node H.hashed id.bytes r key.now }
 {
     let mut h = opened::<H>(id, r, D_LEAF);
     h.feed(key);
@@ -22,7 +22,7 @@ pub(crate) fn leaf<H: Hash>(id: Identifier, r: u32, key: &Row) -> Row
 
 // A node from the two below it.
 pub(crate) fn inner<H: Hash>(id: Identifier, r: u32, left: &Row, right: &Row) -> Row
-    ensures { result ≡ inner_node H.Hash.hashed id.bytes r left.now right.now }
+    ensures { result ≡ inner_node H.hashed id.bytes r left.now right.now }
 {
     let mut h = opened::<H>(id, r, D_INTR);
     h.feed(left);
@@ -32,7 +32,8 @@ pub(crate) fn inner<H: Hash>(id: Identifier, r: u32, left: &Row, right: &Row) ->
 
 // The node above the node r to which the rows of a path lead, from the lowest up.
 pub(crate) fn climb<H: Hash>(id: Identifier, r: u32, bottom: &Row, path: &[Row]) -> Row
-    ensures { result ≡ climbed H.Hash.hashed id.bytes (λ k. slice_index_or path.now k []) r bottom.now (length path.now) }
+    ensures { result ≡ climbed H.hashed id.bytes (λ k. slice_index_or path.now k [])
+        r bottom.now (length path.now) }
 {
     let mut x = *bottom;
     let mut number = r;

@@ -2,18 +2,19 @@
 ghost use Rattle.std.specs.Prelude.{◌≡◌};
 ghost use Rattle.lms.specs.Refusals.{number_of, of_one_time};
 
+/// Why a call is refused, with the public number of each case.
 #[derive(Clone, Copy, PartialEq, Eq, Debug)]
 pub enum Refusal {
-    // The tree has no such key.
+    /// The tree has no such key.
     Key = 9,
-    // A buffer has not its exact length.
+    /// A buffer has not its exact length.
     Buffer = 20,
-    // The message has more than 65,536 bytes.
+    /// The message has more than 65,536 bytes.
     Message = 12,
 }
 
 impl Refusal {
-    // The public number.
+    /// The public number.
     pub fn number(&self) -> usize
         ensures { result ≡ number_of self.now }
     {

@@ -1,12 +1,12 @@
 // Signatures: laid out from given rows, and signed from a grown tree.
-ghost use Rattle.std.specs.Prelude.{◌≡◌, ◌*◌, ◌≤◌, true, ◌&&◌, ◌++◌, length, take, MatchResult, OnOk, ◌==◌};
+ghost use Rattle.std.specs.Prelude.{◌≡◌, ◌≤◌, true, ◌++◌, length, take, MatchResult, OnOk};
 ghost use Rattle.std.specs.Result.{result_err};
+ghost use Rattle.checks.specs.Checks.{first_refusal};
 ghost use Rattle.rows.specs.Bytes.{u32str};
 ghost use Rattle.sizes.specs.Sizes.{bits, levels};
-ghost use Rattle.lmots.specs.LmOts.{p};
-ghost use Rattle.lms.specs.Grown.{grown_root, grown_signature, tall, wide};
+ghost use Rattle.lms.specs.Grown.{grown_root, grown_signature};
 ghost use Rattle.lms.specs.Lms.{accepts, layout, ots_code, signature_length};
-ghost use Rattle.lms.specs.Refusals.{keyed, signing};
+ghost use Rattle.lms.specs.Refusals.{assembly_checks, signing_checks};
 
 use crate::codes::{ots_code, tree_code};
 use crate::kept::Tree;
@@ -17,7 +17,7 @@ use lmots::chain_count;
 use rows::{Row, put};
 use sizes::{Height, Width};
 
-// How many bytes a signature has.
+/// How many bytes a signature has (RFC 8554, 5.4).
 pub fn signature_length(height: Height, width: Width) -> usize
     ensures value { result ≡ signature_length (levels height) (bits width) }
     ensures few { result ≤ 8844 }
@@ -28,14 +28,15 @@ pub fn signature_length(height: Height, width: Width) -> usize
 // The first 40 bytes of a signature.
 pub(crate) fn write_head<H: Hash>(width: Width, key: u32, prefix: &Row, out: &mut [u8])
     requires { 40 ≤ length out.old }
-    ensures { take 40 out.new ≡ u32str key ++ u32str (ots_code H.Hash.ots (bits width)) ++ prefix.now }
+    ensures { take 40 out.new ≡ u32str key ++ u32str (ots_code H.ots (bits width)) ++ prefix.now }
 {
     put(out, 0, &key.to_be_bytes());
     put(out, 4, &ots_code::<H>(width).to_be_bytes());
     put(out, 8, prefix);
 }
 
-// Writes the signature that a key's number, a prefix, one row of each chain and a path make up.
+/// Writes the signature that a key's number, a prefix, one row of each chain and a path make up,
+/// over all of a buffer (RFC 8554, 5.4).
 pub fn assemble<H: Hash>(
     height: Height,
     width: Width,
@@ -45,10 +46,12 @@ pub fn assemble<H: Hash>(
     path: &[u8],
     out: &mut [u8],
 ) -> Result<(), Refusal>
-    ensures answer { result_err result ≡ keyed (levels height) key ((length components.now == 32 * p (bits width))
-        && length path.now == 32 * levels height && length out.old == signature_length (levels height) (bits width)) }
+    ensures answer { result_err result
+        ≡ first_refusal (assembly_checks (levels height) (bits width) key
+        (length components.now) (length path.now) (length out.old)) }
     ensures written { MatchResult result
-        (λ _. out.new ≡ layout H.Hash.ots H.Hash.tree (levels height) (bits width) key prefix.now components.now path.now)
+        (λ _. out.new ≡ layout H.ots H.tree (levels height) (bits width)
+        key prefix.now components.now path.now)
         (λ _. out.new ≡ out.old) }
 {
     if key >= height.keys() {
@@ -69,14 +72,16 @@ pub fn assemble<H: Hash>(
 }
 
 impl<H: Hash> Tree<H> {
-    // Writes the signature of a message by one key over all of a buffer.
+    /// Writes the signature of a message by one key over all of a buffer (RFC 8554, 5.4.1). That a
+    /// key signs one message only is for the caller to see to.
     pub fn sign(&self, key: u32, message: &[u8], out: &mut [u8]) -> Result<(), Refusal>
-        ensures answer { result_err result ≡ signing (tall self.now) (wide self.now) key (length message.now) (length out.old) }
+        ensures answer { result_err result
+            ≡ first_refusal (signing_checks self.now key (length message.now) (length out.old)) }
         ensures written { MatchResult result
-            (λ _. out.new ≡ grown_signature H.Hash.hashed H.Hash.ots H.Hash.tree self.now key message.now)
+            (λ _. out.new ≡ grown_signature H.hashed H.ots H.tree self.now key message.now)
             (λ _. out.new ≡ out.old) }
-        ensures accepted { OnOk result (accepts H.Hash.hashed H.Hash.ots H.Hash.tree
-            (grown_root H.Hash.hashed H.Hash.ots H.Hash.tree self.now) message.now out.new ≡ true) }
+        ensures accepted { OnOk result (accepts H.hashed H.ots H.tree
+            (grown_root H.hashed H.ots H.tree self.now) message.now out.new ≡ true) }
     {
         let leaf = self.leaf(key).ok_or(Refusal::Key)?;
         if out.len() != signature_length(self.height, self.width) {

@@ -4,18 +4,19 @@ ghost use Rattle.rows.specs.Bytes.{part, row_at, str_to_u32};
 ghost use Rattle.sizes.specs.Sizes.{bits, levels};
 ghost use Rattle.lmots.specs.LmOts.{p};
 ghost use Rattle.lms.specs.Accepted.{Accepted};
-ghost use Rattle.lms.specs.Lms.{accepts, accepts_as, candidate_root, signature_length};
+ghost use Rattle.lms.specs.Lms.{accepts, accepts_as, candidate_root, root_length, signature_length};
 
 use crate::codes::{height_of, width_of};
 use crate::nodes::{climb, leaf};
+use crate::reading::ROOT_LENGTH;
 use crate::signing::signature_length;
 use hash::Hash;
 use lmots::{candidate_key, chain_count, digest_of};
 use rows::{Identifier, Row, row_at};
 use sizes::{Height, Width};
 
-// The longest message that is signed or accepted, in bytes.
-pub(crate) const LONGEST: usize = 65536;
+/// The most bytes of a message that is signed or accepted.
+pub const LONGEST: usize = 65536;
 
 fn u32_at(bytes: &[u8], at: usize) -> u32
     requires { at + 4 ≤ length bytes.now }
@@ -43,7 +44,8 @@ fn candidate_root<H: Hash>(
 ) -> Row
     requires small { q < 2 ^ levels height }
     requires long { length sig.now ≡ signature_length (levels height) (bits width) }
-    ensures { result ≡ candidate_root H.Hash.hashed id.bytes (levels height) (bits width) q (part 8 32 sig.now) message.now
+    ensures { result ≡ candidate_root H.hashed id.bytes (levels height) (bits width) q
+        (part 8 32 sig.now) message.now
         (λ i. row_at i (part 40 (32 * p (bits width)) sig.now))
         (λ k. row_at k (part (44 + 32 * p (bits width)) (32 * levels height) sig.now)) }
 {
@@ -77,8 +79,9 @@ fn leaf_of(height: Height, sig: &[u8]) -> Option<u32>
 
 // Whether a root of this height and width accepts a signature of a message.
 fn verify_as<H: Hash>(root: &[u8], message: &[u8], sig: &[u8], height: Height, width: Width) -> bool
-    requires { length root.now ≡ 56 }
-    ensures { result ≡ accepts_as H.Hash.hashed root.now message.now sig.now (levels height) (bits width) }
+    requires { length root.now ≡ root_length }
+    ensures { result
+        ≡ accepts_as H.hashed root.now message.now sig.now (levels height) (bits width) }
 {
     let end = 40 + 32 * chain_count(width);
     if sig.len() != signature_length(height, width) {
@@ -95,9 +98,9 @@ fn verify_as<H: Hash>(root: &[u8], message: &[u8], sig: &[u8], height: Height, w
 
 // All that is asked of a signature.
 fn decide<H: Hash>(root: &[u8], message: &[u8], sig: &[u8]) -> bool
-    ensures { result ≡ accepts H.Hash.hashed H.Hash.ots H.Hash.tree root.now message.now sig.now }
+    ensures { result ≡ accepts H.hashed H.ots H.tree root.now message.now sig.now }
 {
-    if message.len() > LONGEST || root.len() != 56 {
+    if message.len() > LONGEST || root.len() != ROOT_LENGTH {
         return false;
     }
     let Some(height) = height_of::<H>(u32_at(root, 0)) else {
@@ -109,11 +112,12 @@ fn decide<H: Hash>(root: &[u8], message: &[u8], sig: &[u8]) -> bool
     verify_as::<H>(root, message, sig, height, width)
 }
 
-// Whether a root accepts a signature of a message: exactly if the two have the layout and lead to one node.
+/// Whether a root accepts a signature of a message (RFC 8554, 5.4.2, Algorithm 6): exactly if the
+/// two have the layout and lead to one node. Bytes of any length get a yes or a no.
 pub fn verify<H: Hash>(root: &[u8], message: &[u8], sig: &[u8]) -> bool
-    ensures value { result ≡ accepts H.Hash.hashed H.Hash.ots H.Hash.tree root.now message.now sig.now }
-    ensures sound { result ≡ true → Accepted H.Hash.hashed H.Hash.ots H.Hash.tree root.now message.now sig.now }
-    ensures complete { Accepted H.Hash.hashed H.Hash.ots H.Hash.tree root.now message.now sig.now → result ≡ true }
+    ensures value { result ≡ accepts H.hashed H.ots H.tree root.now message.now sig.now }
+    ensures sound { result ≡ true → Accepted H.hashed H.ots H.tree root.now message.now sig.now }
+    ensures complete { Accepted H.hashed H.ots H.tree root.now message.now sig.now → result ≡ true }
 {
     decide::<H>(root, message, sig)
 }

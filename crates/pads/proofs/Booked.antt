@@ -1,24 +1,14 @@
 -- The laws of books.
-use Rattle.std.proofs.Common.{◌≡◌, ℕ, ◌+◌, ◌-◌, ◌*◌, ◌/◌, ◌%◌, ◌^◌, ◌<◌, Bool, true, false, cond, ltb, leb, List, length, replicate, None, Option, sym, refl, ap, ◌∙◌, mul_comm, mul_assoc, arith}
+use Rattle.std.proofs.Common.{◌≡◌, ℕ, ◌+◌, ◌-◌, ◌*◌, ◌/◌, ◌^◌, ◌<◌, Bool, true, false, cond, ltb, leb, List, length, replicate, None, Option, sym, refl, ap, ◌∙◌, mul_comm, mul_assoc, arith}
 use Rattle.std.proofs.lemmas.Nat.{le-div}
-use Rattle.std.proofs.lemmas.Bool.{and_parts, and_from, cond_both, lt-ltb, cond-false, ltb-true, leb-true, le-leb}
+use Rattle.std.proofs.lemmas.Bool.{and_parts, and_from, lt-ltb, cond-false, ltb-true, leb-true, le-leb}
 use Rattle.rows.specs.Bytes.{row_at}
-use Rattle.lms.specs.Scheme.{positions}
-use Rattle.pads.specs.declared.label.Label.{Label}
-use Rattle.pads.specs.Labelled.{path_label, chain_label, label_at, row_of}
+use Rattle.pads.specs.Labelled.{label_at, row_of}
 use Rattle.pads.specs.Books.{rows_of_key, book_holds, row_at_place, book_pad}
-use Rattle.pads.specs.Laws.{Labelling, Whole, Booking}
-use Rattle.pads.proofs.Placed.{there, back}
-use Rattle.pads.proofs.Rising.{rising}
-use Rattle.pads.proofs.Places.{place_fits, held_row}
-
--- every row's label is of the key
-key_of : (k h w key n : ℕ) → (label_at k h w key n).key ≡ key
-key_of k h w key n =
-    let is : Label → Type 0 = λ l. l.key ≡ key in
-    cond_both (ltb n 1) _ _ is (λ a. refl) (λ a.
-    cond_both (ltb n (1 + k)) _ _ is (λ b. refl) (λ b.
-    cond_both (ltb n (1 + k + h)) (path_label key (n - (1 + k))) (chain_label key ((n - (1 + k + h)) / positions w) ((n - (1 + k + h)) % positions w)) is (λ c. refl) (λ c. refl)))
+use Rattle.pads.specs.Laws.{Whole, Booking}
+use Rattle.pads.proofs.Placed.{there, of_key}
+use Rattle.pads.proofs.Rising.{labelling}
+use Rattle.pads.proofs.BookRows.{place_fits, held_row}
 
 module _ (h w first : ℕ) (bytes : List ℕ) (key : ℕ) where
   abbrev R : ℕ
@@ -42,7 +32,7 @@ module _ (h w first : ℕ) (bytes : List ℕ) (key : ℕ) where
   in_rows : (n : ℕ) → book_holds h w first bytes key ≡ true → n < R → row_at (R * (key - first) + n) bytes ≡ book_pad h w first bytes (label_at 8 h w key n)
   in_rows n e l =
       let label = label_at 8 h w key n in
-      let same = key_of 8 h w key n in
+      let same = of_key 8 h w key n in
       ap (λ k. row_at (R * (k - first) + n) bytes) (sym same)
       ∙ held_row h w first bytes label n (ap (book_holds h w first bytes) same ∙ e) (sym (there 8 h w key n l))
 
@@ -50,13 +40,6 @@ module _ (h w first : ℕ) (bytes : List ℕ) (key : ℕ) where
 others : (held : Bool) (bytes : List ℕ) (start : ℕ) (row : Option ℕ) → row ≡ None → cond held (row_at_place bytes start row) (replicate 32 0) ≡ replicate 32 0
 others true bytes start row e = ap (row_at_place bytes start) e
 others false bytes start row e = refl
-
-pub labelling : Labelling
-labelling = record {
-  there = there;
-  back = back;
-  rising = λ k h w key n m l in-part. rising k h w key n m l;
-}
 
 pub booking : Booking
 booking = record {

@@ -1,4 +1,5 @@
-pub mod Booked
 pub mod Placed
 pub mod Rising
-pub mod Places
+pub mod Named
+pub mod BookRows
+pub mod Booked

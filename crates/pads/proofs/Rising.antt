@@ -1,12 +1,12 @@
 -- Rows rise with their labels.
-use Rattle.std.proofs.Common.{◌≡◌, ℕ, ◌+◌, ◌-◌, ◌*◌, ◌/◌, ◌%◌, ◌<◌, ◌≤◌, ◌⊎◌, inl, inr, sym, refl, ap, ◌∙◌, subst₂, ⊎_elim, mul_comm, mul-le-mul_left, arith}
-use Rattle.std.proofs.lemmas.Nat.{div-add-mod', mod_below}
+use Rattle.std.proofs.Common.{◌≡◌, ℕ, ◌+◌, ◌*◌, ◌<◌, ◌≤◌, ◌⊎◌, inl, inr, refl, ap, ⊎_elim, mul_comm, mul-le-mul_left, arith}
 use Rattle.std.proofs.lemmas.Bool.{cases_lt}
-use Rattle.lms.specs.Scheme.{positions}
+use Rattle.lms.specs.Scheme.{components, positions}
+use Rattle.layout.specs.Part.{part_rows}
 use Rattle.pads.specs.declared.label.Label.{Label}
 use Rattle.pads.specs.Labelled.{prefix_label, check_row_label, path_label, chain_label, label_at}
-use Rattle.pads.specs.Laws.{Before}
-use Rattle.pads.proofs.Placed.{positive, at_check, at_path, at_component}
+use Rattle.pads.specs.Laws.{Before, Labelling}
+use Rattle.pads.proofs.Placed.{each_row, of_check, of_path, of_chain, there, of_key, back}
 
 -- of two places among rows of some each, the later one is of a later row, or further on in the same
 apart : (each i j k l : ℕ) → j < each → i * each + j < k * each + l → l < each → (i < k) ⊎ ((i ≡ k) × (j < l))
@@ -24,65 +24,41 @@ module _ (k h w key : ℕ) where
   abbrev P : ℕ
   P = positions w
 
-  -- the row of a label, by its kind
-  record Checks (n : ℕ) (l : Label) : Type 0 where
-    i : ℕ
-    low : i < k
-    at : n ≡ 1 + i
-    is : l ≡ check_row_label key i
+  -- the label of row n comes before those of all rows behind it
+  abbrev Leads : ℕ → Label → Type 0
+  Leads n a = (m : ℕ) → m < part_rows h w k → n < m → Before a (label_at k h w key m)
 
-  record Paths (n : ℕ) (l : Label) : Type 0 where
-    i : ℕ
-    low : i < h
-    at : n ≡ 1 + k + i
-    is : l ≡ path_label key i
+  pub rising : (n m : ℕ) → n < m → m < part_rows h w k → Before (label_at k h w key n) (label_at k h w key m)
+  rising n m less inside = each_row k h w key Leads prefix check path chain n (omega arith) m inside less
+    where
+      prefix : Leads 0 (prefix_label key)
+      prefix =
+          each_row k h w key (λ m b. 0 < m → Before (prefix_label key) b)
+          (λ l. absurd (omega arith)) (λ x _ l. inl (omega arith)) (λ x _ l. inl (omega arith)) (λ x y _ _ l. inl (omega arith))
 
-  record Chains (n : ℕ) (l : Label) : Type 0 where
-    i : ℕ
-    j : ℕ
-    inside : j < P
-    at : n ≡ 1 + k + h + i * P + j
-    is : l ≡ chain_label key i j
+      check : (i : ℕ) → i < k → Leads (1 + i) (check_row_label key i)
+      check i _ =
+          each_row k h w key (λ m b. 1 + i < m → Before (check_row_label key i) b)
+          (λ l. absurd (omega arith)) (λ x _ l. inr (refl, inl (omega arith))) (λ x _ l. inl (omega arith)) (λ x y _ _ l. inl (omega arith))
 
-  abbrev Kinds : ℕ → Label → Type 0
-  Kinds n l = ((n ≡ 0) × (l ≡ prefix_label key)) ⊎ (Checks n l ⊎ (Paths n l ⊎ Chains n l))
+      path : (i : ℕ) → i < h → Leads (1 + k + i) (path_label key i)
+      path i _ =
+          each_row k h w key (λ m b. 1 + k + i < m → Before (path_label key i) b)
+          (λ l. absurd (omega arith)) (λ x a l. absurd (omega arith)) (λ x _ l. inr (refl, inl (omega arith))) (λ x y _ _ l. inl (omega arith))
 
-  kinds : (n : ℕ) → Kinds n (label_at k h w key n)
-  kinds n =
-      ⊎_elim
-      (λ (a : n < 1). let z : n ≡ 0 = omega arith in inl (z, (λ t. label_at k h w key (z t))))
-      (λ (a : 1 ≤ n).
-      ⊎_elim
-      (λ (b : n < 1 + k). let e : n ≡ 1 + (n - 1) = omega arith in inr (inl (record { i = n - 1; low = omega arith; at = e; is = (λ t. label_at k h w key (e t)) ∙ at_check k h w key (n - 1) (omega arith) })))
-      (λ (b : 1 + k ≤ n).
-      ⊎_elim
-      (λ (c : n < 1 + k + h). let e : n ≡ 1 + k + (n - (1 + k)) = omega arith in inr (inr (inl (record { i = n - (1 + k); low = omega arith; at = e; is = (λ t. label_at k h w key (e t)) ∙ at_path k h w key (n - (1 + k)) (omega arith) }))))
-      (λ (c : 1 + k + h ≤ n).
-      let m = n - (1 + k + h) in
-      let j : m % P < P = mod_below m P (positive w) in
-      let e : n ≡ 1 + k + h + m / P * P + m % P = omega (arith, div-add-mod' m P) in
-      inr (inr (inr (record { i = m / P; j = m % P; inside = j; at = e; is = (λ t. label_at k h w key (e t)) ∙ at_component k h w key (m / P) (m % P) j }))))
-      (cases_lt n (1 + k + h)))
-      (cases_lt n (1 + k)))
-      (cases_lt n 1)
+      chain : (i j : ℕ) → i < components w → j < P → Leads (1 + k + h + i * P + j) (chain_label key i j)
+      chain i j _ b =
+          each_row k h w key (λ m c. 1 + k + h + i * P + j < m → Before (chain_label key i j) c)
+          (λ l. absurd (omega arith)) (λ x a l. absurd (omega arith)) (λ x a l. absurd (omega arith)) (λ x y _ c l. inr (refl, apart P i j x y b (omega arith) c))
 
-  before : (n m : ℕ) (a b : Label) → n < m → Kinds n a → Kinds m b → Before a b
-  before n m a b l (inl x) (inl y) = absurd (omega arith)
-  before n m a b l (inl x) (inr (inl y)) = subst₂ Before (sym x.1) (sym y.is) (inl (omega arith))
-  before n m a b l (inl x) (inr (inr (inl y))) = subst₂ Before (sym x.1) (sym y.is) (inl (omega arith))
-  before n m a b l (inl x) (inr (inr (inr y))) = subst₂ Before (sym x.1) (sym y.is) (inl (omega arith))
-  before n m a b l (inr (inl x)) (inl y) = absurd (omega arith)
-  before n m a b l (inr (inl x)) (inr (inl y)) = subst₂ Before (sym x.is) (sym y.is) (inr (refl, inl (omega (arith, x.at, y.at))))
-  before n m a b l (inr (inl x)) (inr (inr (inl y))) = subst₂ Before (sym x.is) (sym y.is) (inl (omega arith))
-  before n m a b l (inr (inl x)) (inr (inr (inr y))) = subst₂ Before (sym x.is) (sym y.is) (inl (omega arith))
-  before n m a b l (inr (inr (inl x))) (inl y) = absurd (omega arith)
-  before n m a b l (inr (inr (inl x))) (inr (inl y)) = absurd (omega (arith, x.at, y.at, y.low))
-  before n m a b l (inr (inr (inl x))) (inr (inr (inl y))) = subst₂ Before (sym x.is) (sym y.is) (inr (refl, inl (omega (arith, x.at, y.at))))
-  before n m a b l (inr (inr (inl x))) (inr (inr (inr y))) = subst₂ Before (sym x.is) (sym y.is) (inl (omega arith))
-  before n m a b l (inr (inr (inr x))) (inl y) = absurd (omega arith)
-  before n m a b l (inr (inr (inr x))) (inr (inl y)) = absurd (omega (arith, x.at, y.at, y.low))
-  before n m a b l (inr (inr (inr x))) (inr (inr (inl y))) = absurd (omega (arith, x.at, y.at, y.low))
-  before n m a b l (inr (inr (inr x))) (inr (inr (inr y))) = subst₂ Before (sym x.is) (sym y.is) (inr (refl, apart P x.i x.j y.i y.j x.inside (omega (arith, x.at, y.at)) y.inside))
-
-  pub rising : (n m : ℕ) → n < m → Before (label_at k h w key n) (label_at k h w key m)
-  rising n m l = before n m (label_at k h w key n) (label_at k h w key m) l (kinds n) (kinds m)
+pub labelling : Labelling
+labelling = record {
+  prefix = λ k h w key. refl;
+  check_row = of_check;
+  path = of_path;
+  chain = of_chain;
+  there = there;
+  of_key = of_key;
+  back = back;
+  rising = rising;
+}

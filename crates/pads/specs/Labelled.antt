@@ -1,5 +1,6 @@
--- Which label each row of a key's part has: the prefix, a check row for each of k members, h path rows, and the components, position by position.
-use Rattle.std.specs.Prelude.{ℕ, ◌+◌, ◌-◌, ◌*◌, ◌/◌, ◌%◌, cond, ◌&&◌, Some, None, Option, ◌==◌, nat_lt}
+-- Which label each row of a key's part has: the prefix, a check row for each of k members, h path rows,
+-- and the chains, position by position.
+use Rattle.std.specs.Prelude.{ℕ, ◌+◌, ◌-◌, ◌*◌, ◌/◌, ◌%◌, if◌then◌else◌, ◌&&◌, Some, None, Option, ◌==◌, nat_lt}
 use Rattle.lms.specs.Scheme.{components, positions}
 use Rattle.pads.specs.declared.label.Label.{Label}
 
@@ -22,15 +23,17 @@ chain_label key i j = record { kind = 2; key = key; i = i; j = j }
 -- ---- the label of row n
 abbrev pub label_at : ℕ → ℕ → ℕ → ℕ → ℕ → Label
 label_at k h w key n =
-    cond (nat_lt n 1) (prefix_label key) (
-    cond (nat_lt n (1 + k)) (check_row_label key (n - 1)) (
-    cond (nat_lt n (1 + k + h)) (path_label key (n - (1 + k)))
-    (chain_label key ((n - (1 + k + h)) / positions w) ((n - (1 + k + h)) % positions w))))
+    if nat_lt n 1 then prefix_label key
+    else if nat_lt n (1 + k) then check_row_label key (n - 1)
+    else if nat_lt n (1 + k + h) then path_label key (n - (1 + k))
+    else chain_label key ((n - (1 + k + h)) / positions w) ((n - (1 + k + h)) % positions w)
 
 -- ---- and back: the row of a label, where its key's part has it
 abbrev pub row_of : ℕ → ℕ → ℕ → Label → Option ℕ
 row_of k h w l =
-    cond (l.kind == 4 && (l.i == 0 && l.j == 0)) (Some 0) (
-    cond (l.kind == 5 && (nat_lt l.i k && l.j == 0)) (Some (1 + l.i)) (
-    cond (l.kind == 1 && (nat_lt l.i h && l.j == 0)) (Some (1 + k + l.i)) (
-    cond (l.kind == 2 && (nat_lt l.i (components w) && nat_lt l.j (positions w))) (Some (1 + k + h + l.i * positions w + l.j)) None)))
+    if l.kind == 4 && (l.i == 0 && l.j == 0) then Some 0
+    else if l.kind == 5 && (nat_lt l.i k && l.j == 0) then Some (1 + l.i)
+    else if l.kind == 1 && (nat_lt l.i h && l.j == 0) then Some (1 + k + l.i)
+    else if l.kind == 2 && (nat_lt l.i (components w) && nat_lt l.j (positions w))
+    then Some (1 + k + h + l.i * positions w + l.j)
+    else None

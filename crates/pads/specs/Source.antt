@@ -19,9 +19,14 @@ abbrev pub mac_of : {S : Type 0} → (S → List ℕ → S) → (S → List ℕ)
 mac_of fed closed inner outer text = closed (fed outer (closed (fed inner text)))
 
 -- and the code under a key that is kept as these two
-abbrev pub mac_under : {H S : Type 0} → (H → S) → (S → List ℕ → S) → (S → List ℕ) → HmacKey H → List ℕ → List ℕ
+abbrev pub mac_under : {H S : Type 0} →
+    (H → S) → (S → List ℕ → S) → (S → List ℕ) → HmacKey H → List ℕ → List ℕ
 mac_under state fed closed key = mac_of fed closed (state key.inner) (state key.outer)
 
 -- every key held, and all pads codes of their labels
 abbrev pub by_mac : (List ℕ → List ℕ) → Source
-by_mac mac = record { held = λ k. true; pad = λ l. mac (label_bytes l); check = λ k prefix. mac (check_bytes k prefix) }
+by_mac mac = record {
+  held = λ k. true;
+  pad = λ l. mac (label_bytes l);
+  check = λ k prefix. mac (check_bytes k prefix);
+}

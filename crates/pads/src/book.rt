@@ -1,15 +1,15 @@
 // A book: pads on borrowed bytes, for consecutive keys from a stated first one.
-ghost use Rattle.std.specs.Prelude.{◌≡◌, ℕ, ◌+◌, ◌*◌, ◌<◌, ◌≤◌, List};
+ghost use Rattle.std.specs.Prelude.{◌≡◌, ◌≤◌};
 ghost use Rattle.sizes.specs.Sizes.{levels, bits};
 ghost use Rattle.hash.specs.Rfc2104.{hmac_of};
 ghost use Rattle.sha256.specs.Fips180.{sha256 as standard};
 ghost use Rattle.sha256.specs.State.{fed, closed};
 ghost use Rattle.sha256.specs.View.{viewed};
-ghost use Rattle.lms.specs.Scheme.{components, positions};
-ghost use Rattle.pads.specs.Labels.{check_bytes};
+ghost use Rattle.sha256.specs.Laws.{closed_long_law, closed_bytes_law};
+ghost use Rattle.pads.specs.Row.{AllRows, AllRows-prop};
 ghost use Rattle.pads.specs.Source.{mac_under};
 ghost use Rattle.pads.specs.Labelled.{row_of};
-ghost use Rattle.pads.specs.Books.{rows_of_key, of_book};
+ghost use Rattle.pads.specs.Books.{rows_of_key, book_pad, of_book};
 ghost use Rattle.pads.specs.Laws.{Booking};
 
 use crate::hmac_pads::HmacPads;
@@ -20,10 +20,14 @@ use rows::{Row, row_at};
 use sha256::Hasher;
 use sizes::{Height, Width};
 
-// A book has check rows for as many members as a group may have, whatever the size of a key's group.
+// A book has check rows for as many members as a group may have, whatever the size of a group.
 const CHECK_ROWS: usize = 8;
 
-// The keys from `first` on have their rows one after the other; the check pads are HMAC-SHA-256 under a key of the book's own.
+/// Pads that were written down: rows of consecutive keys on borrowed bytes, key by key.
+///
+/// A key has a row of 32 bytes for its prefix, 8 for check rows, one for each level of the path,
+/// and one for each position of each chain. Check pads are HMAC-SHA-256 (RFC 2104) under a key of
+/// the book's own.
 #[derive(Clone, Copy)]
 pub struct Book<'a> {
     bytes: &'a [u8],
@@ -31,9 +35,14 @@ pub struct Book<'a> {
     height: Height,
     width: Width,
     check: HmacPads<Hasher>,
+    // Every label's pad is a row, also that of a label which has none in the book.
+    ghost rows: { AllRows (book_pad (levels height) (bits width) first bytes.now) } by { AllRows-prop _ },
 }
 
 impl<'a> Book<'a> {
+    /// The book on these bytes, for a tree of this height and width. It begins with the rows of the
+    /// key `first`. A key whose rows are cut, and one from 2^h on, is not held. `check` is the key
+    /// of its check pads.
     #[tactic(auto, using(crate::proofs::Booked::booking))]
     pub fn new(
         bytes: &'a [u8],
@@ -42,8 +51,8 @@ impl<'a> Book<'a> {
         width: Width,
         check: &[u8; 32],
     ) -> Book<'a>
-        ensures parts { (result.bytes.now ≡ bytes.now) × (result.first ≡ first) × (result.height ≡ height) × (result.width ≡ width) }
-        ensures checks { (k : ℕ) (prefix : List ℕ) → mac_under viewed fed closed result.check.key (check_bytes k prefix) ≡ hmac_of standard 64 check.now (check_bytes k prefix) }
+        ensures means { ⟦<Book<'a> as Pads>⟧.source result
+            ≡ of_book (levels height) (bits width) first bytes.now (hmac_of standard 64 check.now) }
         ensures laws { Booking }
     {
         Book {
@@ -85,7 +94,13 @@ impl<'a> Book<'a> {
 }
 
 impl Pads for Book<'_> {
-    ghost source = { λ b. of_book (levels b.height) (bits b.width) b.first b.bytes.now (mac_under viewed fed closed b.check.key) };
+    ghost source = { λ b. of_book (levels b.height) (bits b.width) b.first b.bytes.now
+        (mac_under viewed fed closed b.check.key) };
+
+    ghost pads_are_rows = { λ b. b.rows };
+
+    ghost check_pads_are_rows = { λ b key prefix.
+        record { long = closed_long_law _; bytes = closed_bytes_law _ } };
 
     fn holds(&self, key: u32) -> bool {
         self.first <= key

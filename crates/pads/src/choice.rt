@@ -1,5 +1,6 @@
 // A source of one of two kinds, so that trustees with unlike sources stand in one slice.
 ghost use Rattle.either.specs.Either.{either};
+ghost use Rattle.either.specs.declared.Either.TheVariants.{Left, Right};
 
 use crate::interface::Pads;
 use crate::label::Label;
@@ -7,7 +8,11 @@ use either::{Either, for_both};
 use rows::Row;
 
 impl<A: Pads, B: Pads> Pads for Either<A, B> {
-    ghost source = { either A.Pads.source B.Pads.source };
+    ghost source = { either A.source B.source };
+
+    ghost pads_are_rows = { elim [ Left a ↦ A.pads_are_rows a | Right b ↦ B.pads_are_rows b ] };
+
+    ghost check_pads_are_rows = { elim [ Left a ↦ A.check_pads_are_rows a | Right b ↦ B.check_pads_are_rows b ] };
 
     fn holds(&self, key: u32) -> bool {
         for_both!(self, pads => pads.holds(key))

@@ -11,16 +11,23 @@ use hash::Hash;
 use hash::hmac::HmacKey;
 use rows::Row;
 
-// The key's two half-fed hashes are kept, so that a pad costs no block of the key.
+/// Pads that are HMAC (RFC 2104) of labels, over any hash, under a key of 32 bytes.
+///
+/// The key's two half-fed hashes are kept, so that a pad costs no block of the key.
 #[derive(Clone, Copy)]
 pub struct HmacPads<H> {
     key: HmacKey<H>,
 }
 
 impl<H: Hash> HmacPads<H> {
+    /// The pads under a key: a label's is the HMAC of its 8 bytes, and a check pad that of 40.
     pub fn new(key: &[u8; 32]) -> HmacPads<H>
-        ensures pads { (label : Name) → mac_under H.Hash.state H.Hash.fed H.Hash.closed result.key (label_bytes label) ≡ hmac_of H.Hash.hashed H.Hash.block key.now (label_bytes label) }
-        ensures checks { (k : ℕ) (prefix : List ℕ) → mac_under H.Hash.state H.Hash.fed H.Hash.closed result.key (check_bytes k prefix) ≡ hmac_of H.Hash.hashed H.Hash.block key.now (check_bytes k prefix) }
+        ensures pads { (label : Name) →
+            (⟦<HmacPads<H> as Pads>⟧.source result).pad label
+            ≡ hmac_of H.hashed H.block key.now (label_bytes label) }
+        ensures checks { (k : ℕ) (prefix : List ℕ) →
+            (⟦<HmacPads<H> as Pads>⟧.source result).check k prefix
+            ≡ hmac_of H.hashed H.block key.now (check_bytes k prefix) }
     {
         HmacPads {
             key: HmacKey::new(key),
@@ -38,13 +45,20 @@ fn text_of(label: Label) -> [u8; 64]
 }
 
 fn texts_of(labels: &[Label; 8]) -> [[u8; 64]; 8]
-    ensures { (n : ℕ) (d : Name) → n < 8 → take 8 (slice_index_or result n []) ≡ label_bytes (slice_index_or labels.now n d) }
+    ensures { (n : ℕ) (d : Name) → n < 8 →
+        take 8 (slice_index_or result n []) ≡ label_bytes (slice_index_or labels.now n d) }
 {
     labels.map(text_of)
 }
 
 impl<H: Hash> Pads for HmacPads<H> {
-    ghost source = { λ p. by_mac (mac_under H.Hash.state H.Hash.fed H.Hash.closed p.key) };
+    ghost source = { λ p. by_mac (mac_under H.state H.fed H.closed p.key) };
+
+    ghost pads_are_rows = { λ p label.
+        record { long = H.closed_long _; bytes = H.closed_bytes _ } };
+
+    ghost check_pads_are_rows = { λ p key prefix.
+        record { long = H.closed_long _; bytes = H.closed_bytes _ } };
 
     fn holds(&self, _key: u32) -> bool {
         true

@@ -20,7 +20,11 @@ pub(crate) const CHECK_ROW: u8 = 5;
 // The check pad of a prefix.
 const CHECK_PAD: u8 = 10;
 
-// The kind is a byte and no enum, since any byte is a label's: HMAC is computed over it.
+/// What a pad is for: a row of a key.
+///
+/// `kind` says what the row is, `key` is the number of the one-time key, and `i` and `j` say which
+/// row of its kind it is; those that a kind does not use are 0. The kind is a byte and no enum,
+/// since HMAC is computed over it, whatever byte it is.
 #[derive(Clone, Copy, PartialEq, Eq, Debug)]
 pub struct Label {
     pub kind: u8,
@@ -30,6 +34,7 @@ pub struct Label {
 }
 
 impl Label {
+    /// The label of a level of the key's path, from 0 at the leaf.
     pub fn path(key: u32, level: u16) -> Label
         ensures { result ≡ path_label key level }
     {
@@ -41,6 +46,7 @@ impl Label {
         }
     }
 
+    /// The label of a position of one of the key's chains, both from 0.
     pub fn chain(key: u32, chain: u16, position: u8) -> Label
         ensures { result ≡ chain_label key chain position }
     {
@@ -52,6 +58,7 @@ impl Label {
         }
     }
 
+    /// The label of the key's prefix.
     pub fn prefix(key: u32) -> Label
         ensures { result ≡ prefix_label key }
     {
@@ -63,6 +70,7 @@ impl Label {
         }
     }
 
+    /// The label of a member's check row, by her position in the group, from 0.
     pub fn check_row(key: u32, member: u16) -> Label
         ensures { result ≡ check_row_label key member }
     {
@@ -74,7 +82,7 @@ impl Label {
         }
     }
 
-    // Its 8 bytes: kind, key, i and j, each with its top byte first.
+    /// Its 8 bytes: kind, key, i and j, each with its top byte first.
     pub fn bytes(&self) -> [u8; 8]
         ensures { result ≡ label_bytes self.now }
     {

@@ -73,7 +73,7 @@ seat_is mask t small in' =
     ∙ sym (ap (λ b. Some (ones (bit_and mask (b - 1)))) bit ∙ ap (λ b. Some (ones b)) (and_mask mask (t - 1)))
 
 -- ---- members rise
-above : (k a mask i : ℕ) → i < length (members_from k a mask) → a ≤ get_or (members_from k a mask) i 0
+pub above : (k a mask i : ℕ) → i < length (members_from k a mask) → a ≤ get_or (members_from k a mask) i 0
 above zero a mask i l = absurd (omega arith)
 above (suc k) a mask i l =
     let later = above k (a + 1) (mask / 2) in
@@ -88,11 +88,11 @@ above (suc k) a mask i l =
     first x xs h (suc j) m = omega (arith, h j (omega arith))
 
 -- each entry is above all before it
-abbrev Climbing : List ℕ → Type 0
+abbrev pub Climbing : List ℕ → Type 0
 Climbing [] = Unit {0}
 Climbing (x ∷ xs) = ((i : ℕ) → i < length xs → x < get_or xs i 0) × Climbing xs
 
-climbing_members : (k a mask : ℕ) → Climbing (members_from k a mask)
+pub climbing_members : (k a mask : ℕ) → Climbing (members_from k a mask)
 climbing_members zero a mask = tt
 climbing_members (suc k) a mask =
     let rest = climbing_members k (a + 1) (mask / 2) in
@@ -100,7 +100,7 @@ climbing_members (suc k) a mask =
     (λ e. ((λ i l. omega (arith, above k (a + 1) (mask / 2) i l)), rest))
     (λ e. rest)
 
-climbs : (xs : List ℕ) → Climbing xs → (i j : ℕ) → i < j → j < length xs → get_or xs i 0 < get_or xs j 0
+pub climbs : (xs : List ℕ) → Climbing xs → (i j : ℕ) → i < j → j < length xs → get_or xs i 0 < get_or xs j 0
 climbs [] c i j l m = absurd (omega arith)
 climbs (x ∷ xs) c i zero l m = absurd (omega arith)
 climbs (x ∷ xs) c zero (suc j) l m = c.0 j (omega arith)

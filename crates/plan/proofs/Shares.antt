@@ -1,138 +1,30 @@
--- The key ranges of a plan.
-use Rattle.std.proofs.Common.{◌≡◌, ℕ, zero, suc, ◌+◌, ◌*◌, ◌/◌, ◌%◌, ◌^◌, ◌<◌, ◌≤◌, true, false, ltb, leb, ◌⊎◌, List, map, length, Some, None, Option, sym, refl, ap, ◌∙◌, subst, inl, inr, ⊎_elim, mul_comm, mul-le-mul_left, mul-zero, mul-one, mul-add, arith}
-use Rattle.std.proofs.lemmas.Nat.{le-div, div-add-mod', div_below, mod_below}
-use Rattle.std.proofs.lemmas.Bool.{and_parts, and_from, cases_Bool, cases_order, cases_lt, cond-true, cond-false, leb-true, le-leb, ltb-true, lt-ltb, true≢false}
+-- What equal shares give each group of keys. Nothing else of ownership is proved from the shares themselves: `Owners` goes on from here.
+use Rattle.std.proofs.Common.{◌≡◌, ℕ, suc, ◌+◌, ◌*◌, ◌/◌, ◌^◌, ◌<◌, ◌≤◌, List, length, sym, ap, ◌∙◌, mul-zero, mul-one, mul-add, arith}
+use Rattle.std.proofs.lemmas.Nat.{le-div, div-add-mod'}
 use Rattle.plan.specs.Shape.{Shape}
-use Rattle.plan.specs.Keys.{share, first_key, key_count, Owns, in_range, owner_from, owner}
-use Rattle.plan.specs.Groups.{group_of, owns_key}
-use Rattle.std.specs.List.{find, range_with_len}
-use Rattle.std.specs.Option.{option_map}
-use Rattle.std.proofs.lemmas.Option.{none-some}
-use Rattle.plan.specs.Laws.{Ranges, TenGroups, ten_groups}
+use Rattle.plan.specs.Keys.{first_key, key_count}
+use Rattle.plan.specs.Laws.{ten_groups}
 
-pub range_from : (first count key : ℕ) → first ≤ key → key < first + count → in_range first count key ≡ true
-range_from first count key low high = and_from _ _ (le-leb first key low) (lt-ltb key (first + count) high)
-
-pub range_parts : (first count key : ℕ) → in_range first count key ≡ true → (first ≤ key) × (key < first + count)
-range_parts first count key h = let p = and_parts (leb first key) (ltb key (first + count)) h in (leb-true _ _ p.0, ltb-true _ _ p.1)
+-- what is asked of the first keys and counts of groups: range follows on range from key 0 on, none is empty, and all lie in the tree
+pub record Shared (p : Shape) : Type 0 where
+  pub some : (g : ℕ) → g < length p.masks → 1 ≤ key_count p g
+  pub starts : first_key p 0 ≡ 0
+  pub follows : (g : ℕ) → g < length p.masks → first_key p (suc g) ≡ first_key p g + key_count p g
+  pub fits : first_key p (length p.masks) ≤ 2 ^ p.height
 
 -- a share fits as often as there are groups
-pub dealt : (total m : ℕ) → total / m * m ≤ total
+dealt : (total m : ℕ) → total / m * m ≤ total
 dealt total m = omega (arith, div-add-mod' total m)
 
-module _ (p : Shape) where
-  abbrev m : ℕ
-  m = length p.masks
-
-  pub next_first : (g : ℕ) → first_key p (suc g) ≡ first_key p g + key_count p g
-  next_first g = let one : g + 1 ≡ suc g = omega arith in ap (λ k. share p * k) (sym one) ∙ mul-add (share p) g 1 ∙ ap (λ k. share p * g + k) (mul-one (share p))
-
-  pub later : (g k : ℕ) → g < k → first_key p g + key_count p g ≤ first_key p k
-  later g k lt = omega (arith, next_first g, mul-le-mul_left (share p) lt)
-
-  pub disjoint : (g k key : ℕ) → Owns p g key → Owns p k key → g ≡ k
-  disjoint g k key a b =
-      ⊎_elim (λ (e : g ≡ k). e) (λ (o : (g < k) ⊎ (k < g)). ⊎_elim (λ (l : g < k). absurd (omega (arith, later g k l, a.2, b.1))) (λ (l : k < g). absurd (omega (arith, later k g l, b.2, a.1))) o) (cases_order g k)
-
-  pub owner_finds : (g k key j : ℕ) → owner_from p g k key ≡ Some j → (g ≤ j) × (j < g + k) × (in_range (first_key p j) (key_count p j) key ≡ true)
-  unfolding owner_from
-  owner_finds g zero key j h = absurd (none-some j h)
-  owner_finds g (suc k) key j h =
-      let test = in_range (first_key p g) (key_count p g) key in
-      ⊎_elim
-      (λ (e : test ≡ true).
-      let s : Some g ≡ Some j = sym (cond-true test (Some g) (owner_from p (g + 1) k key) e) ∙ h in
-      let gj : g ≡ j = cc in
-      (omega arith, omega arith, subst (λ i. in_range (first_key p i) (key_count p i) key ≡ true) gj e))
-      (λ (e : test ≡ false). let r = owner_finds (g + 1) k key j (sym (cond-false test (Some g) (owner_from p (g + 1) k key) e) ∙ h) in (omega (arith, r.0), omega (arith, r.1), r.2))
-      (cases_Bool test)
-
-  pub owner_found : (g k key j : ℕ) → g ≤ j → j < g + k → g + k ≤ m → Owns p j key → owner_from p g k key ≡ Some j
-  unfolding owner_from
-  owner_found g zero key j low high top o = absurd (omega arith)
-  owner_found g (suc k) key j low high top o =
-      let test = in_range (first_key p g) (key_count p g) key in
-      ⊎_elim
-      (λ (e : test ≡ true).
-      let r = range_parts (first_key p g) (key_count p g) key e in
-      cond-true test (Some g) (owner_from p (g + 1) k key) e ∙ ap (λ i. Some i) (disjoint g j key (omega arith, r.0, r.1) o))
-      (λ (e : test ≡ false).
-      let ne : g ≡ j → ⊥ = λ gj. absurd (true≢false (sym (range_from (first_key p g) (key_count p g) key (subst (λ i. first_key p i ≤ key) (sym gj) o.1) (subst (λ i. key < first_key p i + key_count p i) (sym gj) o.2)) ∙ e)) in
-      cond-false test (Some g) (owner_from p (g + 1) k key) e ∙ owner_found (g + 1) k key j (after low ne) (omega arith) (omega arith) o)
-      (cases_Bool test)
-    where
-      after : {a b : ℕ} → a ≤ b → (a ≡ b → ⊥) → a + 1 ≤ b
-      after {a} {b} l n = ⊎_elim (λ (e : a ≡ b). absurd (n e)) (λ (o : (a < b) ⊎ (b < a)). ⊎_elim (λ (x : a < b). omega arith) (λ (x : b < a). omega arith) o) (cases_order a b)
-
-  pub owner_owns : (g key : ℕ) → owner p key ≡ Some g → Owns p g key
-  owner_owns g key h = let r = owner_finds 0 m key g h in let q = range_parts (first_key p g) (key_count p g) key r.2 in (omega (arith, r.1), q.0, q.1)
-
-  pub owns_owner : (g key : ℕ) → Owns p g key → owner p key ≡ Some g
-  owns_owner g key o = owner_found 0 m key g (omega arith) (omega (arith, o.0)) (omega arith) o
-
-  pub inside : (g key : ℕ) → Owns p g key → key < first_key p m
-  inside g key o = omega (arith, later g m o.0, o.2)
-
-  pub unowned : (key : ℕ) → first_key p m ≤ key → owner p key ≡ None
-  unowned key h = none (owner p key) (λ g e. omega (arith, inside g key (owner_owns g key e)))
-    where
-      none : (o : Option ℕ) → ((g : ℕ) → o ≡ Some g → ⊥) → o ≡ None
-      none None f = refl
-      none (Some g) f = absurd (f g refl)
-
-  module _ (groups : 1 ≤ m) (fits : m ≤ 2 ^ p.height) where
-    pub some : 1 ≤ share p
-    some = le-div 1 (2 ^ p.height) m groups (omega arith)
-
-    pub covered : (key : ℕ) → ((g : ℕ) × Owns p g key) ⊎ (first_key p m ≤ key)
-    covered key =
-        let pos = some in
-        let g = key / share p in
-        ⊎_elim
-        (λ (l : key < first_key p m).
-        let split = div-add-mod' key (share p) in
-        let turned = mul_comm (share p) g in
-        let small : g < m = div_below key (share p) m pos (omega (arith, mul_comm (share p) m)) in
-        let last : key % share p < share p = mod_below key (share p) pos in
-        inl (g, (small, omega arith, omega arith)))
-        (λ (l : first_key p m ≤ key). inr l)
-        (cases_lt key (first_key p m))
-
-    pub ranges : Ranges p
-    ranges = record {
-      equal = λ g. refl;
-      some = λ g. some;
-      starts = mul-zero (share p);
-      follows = next_first;
-      disjoint = disjoint;
-      rising = λ g k a b l x y. omega (arith, later g k l, x.2, y.1);
-      covered = λ key l. covered key;
-      inside = inside;
-      rest = omega (arith, dealt (2 ^ p.height) m);
-      owner_owns = owner_owns;
-      owns_owner = owns_owner;
-      unowned = unowned;
+pub shared : (p : Shape) → 1 ≤ length p.masks → length p.masks ≤ 2 ^ p.height → Shared p
+shared p low high =
+    let share = 2 ^ p.height / length p.masks in record {
+      some = λ g l. le-div 1 (2 ^ p.height) (length p.masks) low (omega arith);
+      starts = mul-zero share;
+      follows = λ g l. let one : g + 1 ≡ suc g = omega arith in ap (λ k. share * k) (sym one) ∙ mul-add share g 1 ∙ ap (λ k. share * g + k) (mul-one share);
+      fits = dealt (2 ^ p.height) (length p.masks);
     }
 
--- with ten groups
-ten : (masks : List ℕ) → length masks ≡ 10 → share (ten_groups masks) ≡ 102
-ten masks e = ap (λ k. 1024 / k) e
-
-pub ten_hold : TenGroups
-ten_hold = record {
-  share = λ masks e g. ten masks e;
-  last = λ masks e. let s = ap (λ k. k * 9) (ten masks e) in owns_owner (ten_groups masks) 9 1019 (omega arith, omega (arith, s), omega (arith, s, ten masks e));
-  past = λ masks e. let s = ap (λ k. k * 10) (ten masks e) in let turn = ap (λ k. share (ten_groups masks) * k) e in unowned (ten_groups masks) 1020 (omega (arith, s, turn));
-}
-
--- the first group that has the key is the owner
-pub found_owner : (p : Shape) (g k key : ℕ) → find (λ x. owns_key x key) (map (group_of p) (range_with_len g k)) ≡ option_map (group_of p) (owner_from p g k key)
-unfolding owner_from
-found_owner p g zero key = refl
-found_owner p g (suc k) key =
-    let test = in_range (first_key p g) (key_count p g) key in
-    let rest = found_owner p (g + 1) k key in
-    ⊎_elim
-    (λ (e : test ≡ true). cond-true test _ _ e ∙ sym (ap (option_map (group_of p)) (cond-true test (Some g) (owner_from p (g + 1) k key) e)))
-    (λ (e : test ≡ false). cond-false test _ _ e ∙ rest ∙ sym (ap (option_map (group_of p)) (cond-false test (Some g) (owner_from p (g + 1) k key) e)))
-    (cases_Bool test)
+-- ten groups over 1,024 keys have 102 each
+pub ten : (masks : List ℕ) → length masks ≡ 10 → (g : ℕ) → (key_count (ten_groups masks) g ≡ 102) × (first_key (ten_groups masks) g ≡ 102 * g)
+ten masks e g = (ap (λ k. 1024 / k) e, ap (λ k. 1024 / k * g) e)

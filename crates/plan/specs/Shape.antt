@@ -1,4 +1,5 @@
--- What a plan is: the number of trustees, the tree's height, the digits' width, and the mask of each group.
+-- What a plan is: the number of trustees, the tree's height, the digits' width, and the mask of
+-- each group.
 use Rattle.std.specs.Prelude.{◌≡◌, ℕ, ◌+◌, ◌^◌, ◌<◌, ◌≤◌, Bool, true, ◌&&◌, List, length, nat_le, slice_index}
 use Rattle.sizes.specs.Sizes.{is_height, is_width}
 

@@ -1,12 +1,13 @@
 // A group of a plan: its members, and the range of keys that it owns.
 ghost use Rattle.std.specs.Prelude.{◌≡◌, ◌<◌, ◌≤◌, length, MatchOption, slice_index};
 ghost use Rattle.plan.specs.Members.{members, has, place};
-ghost use Rattle.plan.specs.Groups.{owns_key};
+ghost use Rattle.plan.specs.Groups.{owns_key, IsOfPlan};
 ghost use Rattle.plan.specs.Laws.{Seats};
 
 use crate::members::Members;
 
-// Bit t - 1 of the mask stands for trustee t. The keys run from `first` on and are `count` many.
+/// A group as a value: its number from 0, its members as a mask whose bit t - 1 stands for trustee
+/// t, and its keys, which run from `first` on and are `count` many.
 #[derive(Clone, Copy, PartialEq, Eq, Debug)]
 pub struct Group {
     pub number: usize,
@@ -16,29 +17,31 @@ pub struct Group {
 }
 
 impl Group {
-    // Whether the group owns a key.
+    /// Whether the group owns a key.
     pub fn owns(&self, key: u32) -> bool
         ensures { result ≡ owns_key self.now key }
     {
         self.first <= key && key - self.first < self.count
     }
 
-    // How many members the group has.
+    /// How many members the group has: 1 to 8 where it is a plan's.
     pub fn size(&self) -> usize
-        ensures { result ≡ length (members self.now.mask) }
+        ensures value { result ≡ length (members self.now.mask) }
+        ensures eight { result ≤ 8 }
+        ensures some { IsOfPlan self.now → 1 ≤ result }
     {
         self.mask.count_ones() as usize
     }
 
-    // Whether a trustee is a member.
+    /// Whether a trustee is a member; trustees are numbered from 1.
     pub fn has(&self, trustee: u8) -> bool
         ensures { result ≡ has self.now.mask trustee }
     {
         (1..=8).contains(&trustee) && (self.mask >> (trustee - 1)) & 1 == 1
     }
 
-    // A member's place among the members, by rising trustee number, from 0. Members rise with their places, each has one, and who has one
-    // is whom the mask has.
+    /// A member's place among the members, by rising trustee number, from 0. Members rise with
+    /// their places, each has one, and who has one is whom the mask has.
     pub fn position(&self, trustee: u8) -> Option<usize>
         ensures value { result ≡ place trustee (members self.now.mask) }
         ensures seats { Seats self.now.mask }
@@ -51,17 +54,18 @@ impl Group {
         Some(lower.count_ones() as usize)
     }
 
-    // The members, by rising trustee number.
+    /// The members, by rising trustee number.
     pub fn members(&self) -> Members
         ensures { result ≡ members self.now.mask }
     {
         Members { left: self.mask }
     }
 
-    // The member at a place, from 0, where the group has so many.
+    /// The member at a place, from 0, where the group has so many.
     pub fn member(&self, position: usize) -> Option<u8>
-        ensures { MatchOption result (length (members self.now.mask) ≤ position)
-            (λ t. (position < length (members self.now.mask)) × (t ≡ slice_index (members self.now.mask) position) × (1 ≤ t) × (t ≤ 8)) }
+        ensures { let all = members self.now.mask in MatchOption result
+            (length all ≤ position)
+            (λ t. (position < length all) × (t ≡ slice_index all position) × (1 ≤ t) × (t ≤ 8)) }
     {
         self.members().nth(position)
     }

@@ -5,7 +5,7 @@ use crate::group::Group;
 use crate::plans::Plan;
 use std::marker::Model;
 
-// Seen as the list of those that are still to come, from group `number` on.
+/// The groups of a plan by rising number. Seen as the list of those that are still to come.
 #[derive(Drop)]
 pub struct Groups<'a> {
     pub(crate) plan: &'a Plan,

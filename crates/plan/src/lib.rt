@@ -1,8 +1,9 @@
-// A plan: which groups of trustees may sign, and which one-time keys each group owns.
+//! A plan: which groups of trustees may sign, and which one-time keys each group owns.
 #![tactic(auto)]
 
 mod group;
 mod groups;
+mod keys;
 mod lookup;
 mod making;
 mod members;

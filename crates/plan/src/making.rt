@@ -7,10 +7,13 @@ use crate::plans::Plan;
 use sizes::{Height, Width};
 
 impl Plan {
-    // The plan with these parts, where they keep the rules: 1 to 8 trustees, 1 to 70 groups and no more than keys,
-    // and masks that are at least 1, name only trustees of the plan, and rise strictly.
+    /// The plan with these parts, where they keep the rules: 1 to 8 trustees, 1 to 70 groups and no
+    /// more than keys, and masks that are at least 1, name only trustees of the plan, and rise
+    /// strictly. Bit t - 1 of a group's mask stands for trustee t.
     pub fn new(trustees: u8, height: Height, width: Width, masks: &[u8]) -> Option<Plan>
-        ensures { MatchOption result (Valid (shaped trustees height width masks.now) → ⊥) (λ p. Valid (shaped trustees height width masks.now) × (view p ≡ shaped trustees height width masks.now)) }
+        ensures { let parts = shaped trustees height width masks.now in MatchOption result
+            (Valid parts → ⊥)
+            (λ p. Valid parts × (view p ≡ parts)) }
     {
         let groups = masks.len();
         if !(1..=8).contains(&trustees) || !(1..=70).contains(&groups) {

@@ -3,9 +3,11 @@ ghost use Rattle.std.specs.Iterator.{YieldsFirst, item_count};
 
 use std::marker::Model;
 
-// Seen as the list of those who are still to come, by rising trustee number; bit t - 1 stands for trustee t.
+/// The members of a group by rising trustee number. Seen as the list of those who are still to
+/// come.
 #[derive(Drop)]
 pub struct Members {
+    // Bit t - 1 stands for trustee t.
     pub(crate) left: u8,
 }
 

@@ -1,18 +1,18 @@
 -- The eight fields of a group line, and the mask that they write.
-use Rattle.std.proofs.Common.{◌≡◌, ℕ, zero, suc, ◌+◌, ◌-◌, ◌*◌, ◌/◌, ◌%◌, ◌^◌, ◌<◌, ◌≤◌, Bool, true, false, cond, ◌&&◌, eqb, ltb, leb, List, [], ◌∷◌, ◌++◌, length, is_some, Some, None, Option, unwrap_or, sym, refl, ap, ◌∙◌, ⊎_elim, append_assoc, mul_assoc, mul-one, mul-add, arith, pow_mono}
+use Rattle.std.proofs.Common.{◌≡◌, ℕ, zero, suc, ◌+◌, ◌-◌, ◌*◌, ◌/◌, ◌%◌, ◌^◌, ◌<◌, ◌≤◌, true, false, cond, ◌&&◌, eqb, ltb, leb, List, [], ◌∷◌, ◌++◌, length, is_some, Some, None, Option, unwrap_or, sym, refl, ap, ◌∙◌, ⊎_elim, append_assoc, mul_assoc, mul-one, mul-add, arith, pow_mono}
 use native.Mathlib.Nat.{pow-succ'}
 use Rattle.std.specs.List.{flat_map}
 use Rattle.std.proofs.lemmas.Nat.{pow-add}
 use Rattle.std.proofs.lemmas.List.{replicate-append-replicate, nil_from_length}
 use Rattle.std.proofs.lemmas.Bool.{ne_eqb, eqb-true, leb-true, ltb-true, cond-false, and_parts, or_cases, cases_Bool, false≢true}
-use Rattle.std.proofs.lemmas.Option.{none-some}
-use Rattle.plan_sheet.specs.declared.refusal.Refusal.{Refusal}
-use Rattle.columns.specs.Number.{spaces, right, unpadded, read_on, plain, number}
+use Rattle.checks.specs.Checks.{first_refusal}
+use Rattle.columns.specs.Number.{spaces, right, unpadded, read_on, plain, number, blank}
 use Rattle.plan.specs.Members.{members, members_from}
+use Rattle.plan.proofs.Membership.{members_zero}
 use Rattle.plan_sheet.specs.Entries.{orderly, bit, mask_of}
-use Rattle.plan_sheet.specs.Checks.{first, check, worth, entry_faults}
-use Rattle.columns.specs.Number.{blank}
+use Rattle.plan_sheet.specs.Checks.{worth, entry_checks}
 use Rattle.columns.proofs.Text.{padded, number_is}
+use Rattle.plan_sheet.proofs.Passing.{first_passes}
 use Rattle.plan_sheet.proofs.Groups.{bit_some, pow_double}
 
 -- how an entry is written, 0 for a blank
@@ -27,16 +27,12 @@ abbrev pub Under : ℕ → List ℕ → Type 0
 Under n [] = Unit {0}
 Under n (t ∷ ts) = (t ≤ n) × Under n ts
 
-pub check_none : (b : Bool) (e : Refusal) (os : List (Option Refusal)) → first (check b e ∷ os) ≡ None → (b ≡ true) × (first os ≡ None)
-check_none true e os h = (refl, h)
-check_none false e os h = absurd (none-some e (sym h))
-
--- a faultless field is its entry, written
-pub field_is : (n l f : ℕ) (bytes : List ℕ) → length bytes ≡ 3 → entry_faults n l f bytes ≡ None → (bytes ≡ cell (worth bytes)) × (worth bytes ≤ n)
-unfolding entry_faults
+-- a field that passes is its entry, written
+pub field_is : (n l f : ℕ) (bytes : List ℕ) → length bytes ≡ 3 → first_refusal (entry_checks n l f bytes) ≡ None → (bytes ≡ cell (worth bytes)) × (worth bytes ≤ n)
+unfolding entry_checks
 field_is n l f bytes long h =
-    let a = check_none _ _ _ h in
-    let b = check_none _ _ _ a.1 in
+    let a = first_passes _ _ _ h in
+    let b = first_passes _ _ _ a.1 in
     ⊎_elim
     (λ (y : blank bytes ≡ true).
     let e : length (unpadded bytes) ≡ 0 = eqb-true _ _ y in
@@ -59,20 +55,13 @@ field_is n l f bytes long h =
     from_some (Some x) e = refl
 
 -- nothing stands behind a blank
-pub zeros : (ts : List ℕ) → orderly 8 ts ≡ true → Under 8 ts → (mask_of ts ≡ 0) × (flat_map cell ts ≡ spaces (3 * length ts))
-zeros [] o u = (refl, refl)
-zeros (zero ∷ ts) o u =
-    let r = zeros ts o u.1 in
+pub zeros : (ts : List ℕ) → orderly None ts ≡ true → (mask_of ts ≡ 0) × (flat_map cell ts ≡ spaces (3 * length ts))
+zeros [] o = (refl, refl)
+zeros (zero ∷ ts) o =
+    let r = zeros ts o in
     let k : 3 + 3 * length ts ≡ 3 * suc (length ts) = omega arith in
     (omega (arith, r.0), ap (λ xs. spaces 3 ++ xs) r.1 ∙ replicate-append-replicate 3 (3 * length ts) 32 ∙ ap spaces k)
-zeros (suc t ∷ ts) o u =
-    let p = and_parts _ _ (sym (cond-false (eqb (suc t) 0) (orderly 8 ts) (ltb 8 (suc t) && orderly (suc t) ts) (ne_eqb (suc t) 0 (λ e. omega arith))) ∙ o) in
-    let lt : 8 < suc t = ltb-true _ _ p.0 in
-    absurd (omega (arith, u.0))
-
-pub members_zero : (k a : ℕ) → members_from k a 0 ≡ []
-members_zero zero a = refl
-members_zero (suc k) a = members_zero k (a + 1)
+zeros (suc t ∷ ts) o = absurd (false≢true (sym (cond-false (eqb (suc t) 0) (orderly None ts) false (ne_eqb (suc t) 0 (λ e. omega arith))) ∙ o))
 
 -- the lowest member comes first
 pub skip : (j k K a X y : ℕ) → K ≡ j + suc k → X ≡ 2 ^ j * (1 + 2 * y) → members_from K a X ≡ (a + j) ∷ members_from k (a + (j + 1)) y
@@ -92,17 +81,17 @@ skip (suc j) k (suc K) a X y e x =
     ap (λ r. cond (eqb r 1) (a ∷ members_from K (a + 1) (X / 2)) (members_from K (a + 1) (X / 2))) even ∙ skip j k K (a + 1) (X / 2) y (omega arith) half ∙ ap (λ z. z ∷ members_from k ((a + 1) + (j + 1)) y) a1 ∙ ap (λ z. (a + suc j) ∷ members_from k z y) a2
 
 -- rising entries: the mask, its members, and what is written
-pub rise : (floor : ℕ) (es : List ℕ) → floor ≤ 8 → orderly floor es ≡ true → Under 8 es
+pub rise : (floor : ℕ) (es : List ℕ) → floor ≤ 8 → orderly (Some floor) es ≡ true → Under 8 es
     → (x : ℕ) × (mask_of es ≡ 2 ^ floor * x) × (members_from (8 - floor) (floor + 1) x ≡ filled es) × (length (filled es) ≤ length es)
     × (flat_map cell es ≡ flat_map (right 3) (filled es) ++ spaces (3 * (length es - length (filled es))))
 rise floor [] fl o u = (0, omega arith, members_zero (8 - floor) (floor + 1), omega arith, refl)
 rise floor (zero ∷ ts) fl o u =
-    let z = zeros ts o u.1 in
+    let z = zeros ts o in
     let k : 3 + 3 * length ts ≡ 3 * (suc (length ts) - 0) = omega arith in
     (0, omega (arith, z.0), members_zero (8 - floor) (floor + 1), omega arith, ap (λ xs. spaces 3 ++ xs) z.1 ∙ replicate-append-replicate 3 (3 * length ts) 32 ∙ ap spaces k)
 rise floor (suc t ∷ ts) fl o u =
     let nz : eqb (suc t) 0 ≡ false = ne_eqb (suc t) 0 (λ e. omega arith) in
-    let p = and_parts _ _ (sym (cond-false (eqb (suc t) 0) (orderly 8 ts) (ltb floor (suc t) && orderly (suc t) ts) nz) ∙ o) in
+    let p = and_parts _ _ (sym (cond-false (eqb (suc t) 0) (orderly None ts) (ltb floor (suc t) && orderly (Some (suc t)) ts) nz) ∙ o) in
     let lt : floor < suc t = ltb-true _ _ p.0 in
     let t8 : suc t ≤ 8 = u.0 in
     let r = rise (suc t) ts t8 p.1 u.1 in
@@ -127,7 +116,7 @@ rise floor (suc t ∷ ts) fl o u =
     )
 
 -- eight rising entries are written as their mask's members
-pub entries_written : (es : List ℕ) → length es ≡ 8 → orderly 0 es ≡ true → Under 8 es
+pub entries_written : (es : List ℕ) → length es ≡ 8 → orderly (Some 0) es ≡ true → Under 8 es
     → flat_map cell es ≡ flat_map (right 3) (members (mask_of es)) ++ spaces (24 - 3 * length (members (mask_of es)))
 unfolding members
 entries_written es long o u =
@@ -138,11 +127,11 @@ entries_written es long o u =
     r.4 ∙ ap (λ j. flat_map (right 3) (filled es) ++ spaces j) k ∙ ap (λ fs. flat_map (right 3) fs ++ spaces (24 - 3 * length fs)) (sym ms)
 
 -- rising entries of n trustees have a mask below 2^n
-pub mask_under : (n floor : ℕ) (es : List ℕ) → n ≤ 8 → floor ≤ n → orderly floor es ≡ true → Under n es → Under 8 es → mask_of es + 2 ^ floor ≤ 2 ^ n
+pub mask_under : (n floor : ℕ) (es : List ℕ) → n ≤ 8 → floor ≤ n → orderly (Some floor) es ≡ true → Under n es → Under 8 es → mask_of es + 2 ^ floor ≤ 2 ^ n
 mask_under n floor [] n8 fl o u v = let p = pow_mono fl in omega arith
-mask_under n floor (zero ∷ ts) n8 fl o u v = let p = pow_mono fl in omega (arith, (zeros ts o v.1).0)
+mask_under n floor (zero ∷ ts) n8 fl o u v = let p = pow_mono fl in omega (arith, (zeros ts o).0)
 mask_under n floor (suc t ∷ ts) n8 fl o u v =
-    let p = and_parts _ _ (sym (cond-false (eqb (suc t) 0) (orderly 8 ts) (ltb floor (suc t) && orderly (suc t) ts) (ne_eqb (suc t) 0 (λ e. omega arith))) ∙ o) in
+    let p = and_parts _ _ (sym (cond-false (eqb (suc t) 0) (orderly None ts) (ltb floor (suc t) && orderly (Some (suc t)) ts) (ne_eqb (suc t) 0 (λ e. omega arith))) ∙ o) in
     let lt : floor < suc t = ltb-true _ _ p.0 in
     let le : floor ≤ suc t - 1 = omega arith in
     let q = pow_mono le in

@@ -1,42 +1,45 @@
--- The sheet of a plan has no fault, and says that plan.
+-- The sheet of a plan passes, and says that plan.
 use Rattle.std.proofs.Common.{◌≡◌, ℕ, zero, suc, ◌+◌, ◌-◌, ◌*◌, ◌%◌, ◌^◌, ◌<◌, ◌≤◌, Bool, true, ◌&&◌, ◌||◌, eqb, ltb, leb, List, [], ◌∷◌, ◌++◌, map, length, get_or, drop, is_some, Some, None, unwrap_or, sym, refl, ap, ◌∙◌, subst, ⊎_elim, append_assoc, arith}
 use Rattle.std.specs.List.{flat_map, range_with_len, list_all}
 use Rattle.std.proofs.lemmas.List.{drop_at, drop-drop, length-append, append-nil}
 use Rattle.std.proofs.lemmas.Bool.{eq-eqb, ne_eqb, le-leb, lt-ltb, leb-true, eqb-true, or_cases, or_right, and_from, and_parts, cond-false, cases_eq}
+use Rattle.checks.specs.Checks.{first_refusal}
 use Rattle.plan_sheet.specs.declared.refusal.Refusal.TheVariants.{NoNumber, OutOfRange, Members, Groups}
 use Rattle.plan.specs.Shape.{Shape, Valid, is_trustees, is_groups}
 use Rattle.sizes.specs.Sizes.{is_height, is_width}
 use Rattle.columns.specs.Number.{right, number}
 use Rattle.plan_sheet.specs.Written.{written, heading, group_line}
 use Rattle.plan_sheet.specs.Entries.{orderly, mask_of}
-use Rattle.plan_sheet.specs.Checks.{first, check, fed, formed, field_at, worth, quantity_fault, entry_fault, entry_faults, entries, mask_at, above_at, line_fault, members_fault, heading_faults, groups_fault, line_count, fault_of, h_of, w_of, m_of}
+use Rattle.plan_sheet.specs.Checks.{fed, formed, field_at, worth, quantity_checks, field_checks, entry_checks, entries, mask_at, above_at, line_checks, members_check, heading_checks, groups_check, line_count, checks, h_of, w_of, m_of}
 use Rattle.columns.specs.Number.{blank}
 use Rattle.plan_sheet.specs.Law.{plan_of, Complete}
 use Rattle.columns.proofs.Text.{number_right, length_right}
 use Rattle.plan_sheet.proofs.Cells.{cell}
+use Rattle.plan_sheet.proofs.Passing.{both_pass, all_pass}
+use Rattle.plan_sheet.proofs.Headings.{groups_decide}
 use Rattle.plan_sheet.proofs.Lines.{past_groups, above_next}
 use Rattle.plan_sheet.proofs.Tables.{spread, Spread, spreads, length_cell}
-use Rattle.plan_sheet.proofs.Places.{length_joined, part_at, fed_is, field_at_is, map_from, first_all, all_tested}
+use Rattle.plan_sheet.proofs.Places.{length_joined, part_at, fed_is, field_at_is, map_from, all_tested}
 
--- a number in its range is read without a fault
-pub quantity_reads : (range : ℕ → Bool) (l f v : ℕ) (bytes : List ℕ) → bytes ≡ right 6 v → v < 1000000000 → range v ≡ true → (quantity_fault range l f bytes ≡ None) × (worth bytes ≡ v)
-unfolding quantity_fault
+-- a number in its range passes, and is read
+pub quantity_reads : (range : ℕ → Bool) (l f v : ℕ) (bytes : List ℕ) → bytes ≡ right 6 v → v < 1000000000 → range v ≡ true → (first_refusal (quantity_checks range l f bytes) ≡ None) × (worth bytes ≡ v)
+unfolding quantity_checks
 quantity_reads range l f v bytes e small h =
     let n : number bytes ≡ Some v = ap number e ∙ number_right 6 v small in
-    (ap (λ o. first (check (is_some o) (NoNumber l f) ∷ check (range (unwrap_or o 0)) (OutOfRange l f) ∷ [])) n ∙ ap (λ b. first (check b (OutOfRange l f) ∷ [])) h, ap (λ o. unwrap_or o 0) n)
+    (ap (λ o. first_refusal ((is_some o, NoNumber l f) ∷ (range (unwrap_or o 0), OutOfRange l f) ∷ [])) n ∙ ap (λ b. first_refusal ((b, OutOfRange l f) ∷ [])) h, ap (λ o. unwrap_or o 0) n)
 
 -- so is an entry
-pub entry_reads : (n l f t : ℕ) → t ≤ n → n ≤ 8 → (entry_faults n l f (cell t) ≡ None) × (worth (cell t) ≡ t)
-unfolding entry_faults
+pub entry_reads : (n l f t : ℕ) → t ≤ n → n ≤ 8 → (first_refusal (entry_checks n l f (cell t)) ≡ None) × (worth (cell t) ≡ t)
+unfolding entry_checks
 entry_reads n l f t h n8 =
-    ⊎_elim (λ (e : t ≡ 0). subst (λ x. (entry_faults n l f (cell x) ≡ None) × (worth (cell x) ≡ x)) (sym e) (refl, refl))
+    ⊎_elim (λ (e : t ≡ 0). subst (λ x. (first_refusal (entry_checks n l f (cell x)) ≡ None) × (worth (cell x) ≡ x)) (sym e) (refl, refl))
     (λ (ne : t ≡ 0 → ⊥).
     let c : cell t ≡ right 3 t = cond-false (eqb t 0) _ (right 3 t) (ne_eqb t 0 ne) in
     let r : number (right 3 t) ≡ Some t = number_right 3 t (omega arith) in
     let w : worth (right 3 t) ≡ t = ap (λ o. unwrap_or o 0) r in
     let a : (blank (right 3 t) || is_some (number (right 3 t))) ≡ true = or_right _ _ (ap is_some r) in
     let b : (blank (right 3 t) || (leb 1 (worth (right 3 t)) && leb (worth (right 3 t)) n)) ≡ true = or_right _ _ (and_from (leb 1 (worth (right 3 t))) (leb (worth (right 3 t)) n) (le-leb 1 (worth (right 3 t)) (omega (arith, w))) (le-leb (worth (right 3 t)) n (omega (arith, w)))) in
-    (ap (entry_faults n l f) c ∙ ap (λ x. first (check x (NoNumber l f) ∷ check (blank (right 3 t) || (leb 1 (worth (right 3 t)) && leb (worth (right 3 t)) n)) (OutOfRange l f) ∷ [])) a ∙ ap (λ x. first (check x (OutOfRange l f) ∷ [])) b, ap worth c ∙ w))
+    (ap (λ x. first_refusal (entry_checks n l f x)) c ∙ ap (λ x. first_refusal ((x, NoNumber l f) ∷ (blank (right 3 t) || (leb 1 (worth (right 3 t)) && leb (worth (right 3 t)) n), OutOfRange l f) ∷ [])) a ∙ ap (λ x. first_refusal ((x, OutOfRange l f) ∷ [])) b, ap worth c ∙ w))
     (cases_eq t 0)
 
 abbrev pub shape : ℕ → ℕ → ℕ → List ℕ → Shape
@@ -97,23 +100,23 @@ module _ (n h w : ℕ) (ms : List ℕ) (v : Valid (shape n h w ms)) where
       let e : 25 * ((i + 2) - 1) ≡ 25 + 25 * i = omega arith in
       (r.0, ap (λ j. drop j sheet) e ∙ sym (drop-drop (25 * i) 25 sheet) ∙ ap (drop (25 * i)) (drop_at (heading n h w m) (flat_map group_line ms) 25 heading_long ∙ sym (append-nil (flat_map group_line ms))) ∙ r.1 ∙ ap (λ xs. xs ++ r.0) (spread_at i l).text ∙ append_assoc (flat_map cell (spread (get_or ms i 0))) (10 ∷ []) r.0)
 
-  q_at : (range : ℕ → Bool) (f : ℕ) → 1 ≤ f → f < 5 → get_or four (f - 1) 0 < 1000000000 → range (get_or four (f - 1) 0) ≡ true → (quantity_fault range 1 f (field_at 6 sheet 1 f) ≡ None) × (worth (field_at 6 sheet 1 f) ≡ get_or four (f - 1) 0)
+  q_at : (range : ℕ → Bool) (f : ℕ) → 1 ≤ f → f < 5 → get_or four (f - 1) 0 < 1000000000 → range (get_or four (f - 1) 0) ≡ true → (first_refusal (quantity_checks range 1 f (field_at 6 sheet 1 f)) ≡ None) × (worth (field_at 6 sheet 1 f) ≡ get_or four (f - 1) 0)
   q_at range f a b c d = quantity_reads range 1 f (get_or four (f - 1) 0) (field_at 6 sheet 1 f) (field_at_is sheet 1 6 (right 6) four (flat_map group_line ms) head_text four_long f a b) c d
 
-  q1 : (quantity_fault is_trustees 1 1 (field_at 6 sheet 1 1) ≡ None) × (worth (field_at 6 sheet 1 1) ≡ n)
+  q1 : (first_refusal (quantity_checks is_trustees 1 1 (field_at 6 sheet 1 1)) ≡ None) × (worth (field_at 6 sheet 1 1) ≡ n)
   q1 = q_at is_trustees 1 (omega arith) (omega arith) (omega (arith, n_range.1)) v.trustees_in
 
-  q2 : (quantity_fault is_height 1 2 (field_at 6 sheet 1 2) ≡ None) × (worth (field_at 6 sheet 1 2) ≡ h)
+  q2 : (first_refusal (quantity_checks is_height 1 2 (field_at 6 sheet 1 2)) ≡ None) × (worth (field_at 6 sheet 1 2) ≡ h)
   q2 = q_at is_height 2 (omega arith) (omega arith) (omega (arith, h_small)) v.height_in
 
-  q3 : (quantity_fault is_width 1 3 (field_at 6 sheet 1 3) ≡ None) × (worth (field_at 6 sheet 1 3) ≡ w)
+  q3 : (first_refusal (quantity_checks is_width 1 3 (field_at 6 sheet 1 3)) ≡ None) × (worth (field_at 6 sheet 1 3) ≡ w)
   q3 = q_at is_width 3 (omega arith) (omega arith) (omega (arith, w_small)) v.width_in
 
-  q4 : (quantity_fault is_groups 1 4 (field_at 6 sheet 1 4) ≡ None) × (worth (field_at 6 sheet 1 4) ≡ m)
+  q4 : (first_refusal (quantity_checks is_groups 1 4 (field_at 6 sheet 1 4)) ≡ None) × (worth (field_at 6 sheet 1 4) ≡ m)
   q4 = q_at is_groups 4 (omega arith) (omega arith) (omega (arith, m_range.1)) v.groups_in
 
-  heads : first (heading_faults sheet) ≡ None
-  heads = rw (q1.0, q2.0, q3.0, q4.0)
+  heads : first_refusal (heading_checks sheet) ≡ None
+  heads = groups_decide sheet q1.0 q2.0 q3.0 q4.0
 
   count : line_count sheet ≡ m + 1
   count = omega (arith, sheet_long)
@@ -133,17 +136,17 @@ module _ (n h w : ℕ) (ms : List ℕ) (v : Valid (shape n h w ms)) where
       (and_from (eqb (length sheet % 25) 0) (leb 50 (length sheet)) (eq-eqb (length sheet % 25) 0 (omega (arith, sheet_long))) (le-leb 50 (length sheet) (omega (arith, sheet_long, m_range.0))))
       (all_tested (fed sheet) 1 (line_count sheet) fed_each)
 
-  fits : groups_fault sheet ≡ None
-  fits = ap (λ b. check b Groups) (and_from (eqb (m_of sheet + 1) (line_count sheet)) (leb (m_of sheet) (2 ^ h_of sheet)) (eq-eqb (m_of sheet + 1) (line_count sheet) (omega (arith, q4.1, count))) (le-leb (m_of sheet) (2 ^ h_of sheet) (omega (arith, q4.1, ap (λ k. 2 ^ k) q2.1, v.keys_for_all))))
+  fits : first_refusal (groups_check sheet ∷ []) ≡ None
+  fits = ap (λ b. first_refusal ((b, Groups) ∷ [])) (and_from (eqb (m_of sheet + 1) (line_count sheet)) (leb (m_of sheet) (2 ^ h_of sheet)) (eq-eqb (m_of sheet + 1) (line_count sheet) (omega (arith, q4.1, count))) (le-leb (m_of sheet) (2 ^ h_of sheet) (omega (arith, q4.1, ap (λ k. 2 ^ k) q2.1, v.keys_for_all))))
 
   -- the entries of group i
-  entry_is : (i : ℕ) → i < m → (g : ℕ) → 1 ≤ g → g < 9 → (entry_fault sheet (i + 2) g ≡ None) × (worth (field_at 3 sheet (i + 2) g) ≡ get_or (spread (get_or ms i 0)) (g - 1) 0)
+  entry_is : (i : ℕ) → i < m → (g : ℕ) → 1 ≤ g → g < 9 → (first_refusal (field_checks sheet (i + 2) g) ≡ None) × (worth (field_at 3 sheet (i + 2) g) ≡ get_or (spread (get_or ms i 0)) (g - 1) 0)
   entry_is i l g a b =
       let es = spread (get_or ms i 0) in
       let t = line_text i l in
       let is : field_at 3 sheet (i + 2) g ≡ cell (get_or es (g - 1) 0) = field_at_is sheet (i + 2) 3 cell es t.0 t.1 (cells_long i l) g a (omega (arith, (spread_at i l).long)) in
       let r = entry_reads n (i + 2) g (get_or es (g - 1) 0) ((spread_at i l).under (g - 1) (omega arith)) n_range.1 in
-      (ap (λ x. entry_faults x (i + 2) g (field_at 3 sheet (i + 2) g)) q1.1 ∙ ap (entry_faults n (i + 2) g) is ∙ r.0, ap worth is ∙ r.1)
+      (ap (λ x. first_refusal (entry_checks x (i + 2) g (field_at 3 sheet (i + 2) g))) q1.1 ∙ ap (λ x. first_refusal (entry_checks n (i + 2) g x)) is ∙ r.0, ap worth is ∙ r.1)
 
   entries_are : (i : ℕ) → i < m → entries sheet (i + 2) 1 8 ≡ spread (get_or ms i 0)
   entries_are i l =
@@ -161,20 +164,19 @@ module _ (n h w : ℕ) (ms : List ℕ) (v : Valid (shape n h w ms)) where
       let up : get_or ms i 0 < get_or ms (i + 1) 0 = v.rising i (omega arith) in
       omega (arith, ap (λ k. above_at sheet (k + 2)) e, above_next sheet i, mask_is i (omega arith), up, ap (λ k. get_or ms k 0) e)
 
-  line_none : (i : ℕ) → i < m → line_fault sheet (i + 2) ≡ None
-  unfolding line_fault
-  line_none i l =
-      first_all (entry_fault sheet (i + 2)) 1 8 (members_fault sheet (i + 2) ∷ []) (λ g a b. (entry_is i l g a (omega arith)).0)
-      ∙ ap (λ b. first (check b (Members (i + 2)) ∷ [])) (and_from (orderly 0 (entries sheet (i + 2) 1 8)) (ltb (above_at sheet (i + 2)) (mask_at sheet (i + 2))) (ap (orderly 0) (entries_are i l) ∙ (spread_at i l).order) (lt-ltb (above_at sheet (i + 2)) (mask_at sheet (i + 2)) (omega (arith, above_is i l, mask_is i l))))
+  line_passes : (i : ℕ) → i < m → first_refusal (line_checks sheet (i + 2)) ≡ None
+  unfolding line_checks
+  line_passes i l =
+      both_pass (flat_map (field_checks sheet (i + 2)) (range_with_len 1 8)) (members_check sheet (i + 2) ∷ [])
+      (all_pass (field_checks sheet (i + 2)) 1 8 (λ g a b. (entry_is i l g a (omega arith)).0))
+      (ap (λ b. first_refusal ((b, Members (i + 2)) ∷ [])) (and_from (orderly (Some 0) (entries sheet (i + 2) 1 8)) (ltb (above_at sheet (i + 2)) (mask_at sheet (i + 2))) (ap (orderly (Some 0)) (entries_are i l) ∙ (spread_at i l).order) (lt-ltb (above_at sheet (i + 2)) (mask_at sheet (i + 2)) (omega (arith, above_is i l, mask_is i l)))))
 
-  no_fault : fault_of sheet ≡ None
-  no_fault =
-      let F = line_fault sheet in
+  passes : first_refusal (checks sheet) ≡ None
+  passes =
       let e : line_count sheet - 1 ≡ m = omega (arith, count) in
       past_groups sheet is_formed heads fits
-      ∙ ap (λ k. first (map F (range_with_len 2 k))) e
-      ∙ ap first (sym (append-nil (map F (range_with_len 2 m))))
-      ∙ first_all F 2 m [] (λ g a b. let k : g ≡ (g - 2) + 2 = omega arith in ap F k ∙ line_none (g - 2) (omega arith))
+      ∙ ap (λ k. first_refusal (flat_map (line_checks sheet) (range_with_len 2 k))) e
+      ∙ all_pass (line_checks sheet) 2 m (λ g a b. let k : g ≡ (g - 2) + 2 = omega arith in ap (λ x. first_refusal (line_checks sheet x)) k ∙ line_passes (g - 2) (omega arith))
 
   says : plan_of sheet ≡ shape n h w ms
   says =
@@ -182,9 +184,9 @@ module _ (n h w : ℕ) (ms : List ℕ) (v : Valid (shape n h w ms)) where
       let masks : M ≡ ms = ap (λ k. map (mask_at sheet) (range_with_len 2 k)) q4.1 ∙ map_from (mask_at sheet) 2 ms mask_is in
       ap (λ x. shape x (h_of sheet) (w_of sheet) M) q1.1 ∙ ap (λ x. shape n x (w_of sheet) M) q2.1 ∙ ap (λ x. shape n h x M) q3.1 ∙ ap (shape n h w) masks
 
-  pub complete_here : (fault_of (written (shape n h w ms)) ≡ None) × (plan_of (written (shape n h w ms)) ≡ shape n h w ms)
+  pub complete_here : (first_refusal (checks (written (shape n h w ms))) ≡ None) × (plan_of (written (shape n h w ms)) ≡ shape n h w ms)
   unfolding written
-  complete_here = (no_fault, says)
+  complete_here = (passes, says)
 
 pub complete : Complete
 complete p v = complete_here p.trustees p.height p.width p.masks v

@@ -1,4 +1,5 @@
 pub mod Fields
+pub mod Passing
 pub mod Groups
 pub mod Lines
 pub mod Cut
@@ -12,3 +13,5 @@ pub mod Told
 pub mod Chosen
 pub mod Pushes
 pub mod Headings
+pub mod GroupRules
+pub mod Ranks

@@ -1,13 +1,15 @@
 -- The steps of the loops over the lines of a sheet.
-use Rattle.std.proofs.Common.{◌≡◌, ℕ, ◌+◌, ◌-◌, ◌^◌, ◌<◌, ◌≤◌, Bool, true, false, ◌&&◌, eqb, leb, List, ◌∷◌, ◌++◌, map, length, get_or, set, take, drop, Some, None, Option, sym, refl, ap, ◌∙◌, subst, ⊎_elim, arith}
+use Rattle.std.proofs.Common.{◌≡◌, ℕ, ◌+◌, ◌-◌, ◌^◌, ◌<◌, ◌≤◌, Bool, true, false, ◌&&◌, eqb, leb, List, [], ◌∷◌, ◌++◌, length, get_or, set, take, drop, Some, None, sym, ap, ◌∙◌, subst, ⊎_elim, arith}
 use Rattle.std.proofs.lemmas.List.{get_or_append_left, get_or-set_same, get_or-set_other, length-set, length-take-le, length-append, length-drop}
 use Rattle.std.proofs.lemmas.Bool.{ne_eqb, cond-false, cases_eq, and_parts, eqb-true, leb-true}
-use Rattle.plan_sheet.specs.declared.refusal.Refusal.{Refusal}
+use Rattle.std.specs.List.{flat_map, range_with_len}
+use Rattle.checks.specs.Checks.{first_refusal}
+use Rattle.checks.proofs.Ordered.{before, behind}
 use Rattle.plan.specs.Shape.{Within, Rising}
+use Rattle.plan_sheet.specs.declared.refusal.Refusal.{Refusal}
 use Rattle.plan_sheet.specs.declared.refusal.Refusal.TheVariants.{Layout, Groups}
-use Rattle.plan_sheet.specs.Checks.{first, check, formed, line_fault, line_count, mask_at, above_at, Lined, heading_faults, groups_fault, fault_of, m_of, h_of}
-use Rattle.std.specs.List.{range_with_len}
-use Rattle.std.proofs.lemmas.Option.{none-some}
+use Rattle.plan_sheet.specs.Checks.{formed, line_checks, line_count, mask_at, above_at, Lined, heading_checks, groups_check, checks, m_of, h_of}
+use Rattle.plan_sheet.proofs.Passing.{both_pass}
 use Rattle.plan_sheet.proofs.Groups.{from_next}
 
 pub above_next : (s : List ℕ) (i : ℕ) → above_at s ((i + 1) + 2) ≡ mask_at s (i + 2)
@@ -19,23 +21,27 @@ above_next s i =
 pub record Lining (s : List ℕ) (n m i line above : ℕ) (masks : List ℕ) : Type 0 where
   pub at : line ≡ i + 1
   pub long : m ≤ length masks
-  pub faults : first (map (line_fault s) (range_with_len 2 m)) ≡ first (map (line_fault s) (range_with_len (i + 2) (m - i)))
+  pub rest : first_refusal (flat_map (line_checks s) (range_with_len 2 m)) ≡ first_refusal (flat_map (line_checks s) (range_with_len (i + 2) (m - i)))
   pub last : above ≡ above_at s (i + 2)
   pub each : (g : ℕ) → g < i → get_or masks g 0 ≡ mask_at s (g + 2)
   pub within : Within (2 ^ n) i masks
   pub rising : Rising i masks
 
 module _ (s : List ℕ) (n m i line above : ℕ) (masks : List ℕ) (z : Lining s n m i line above masks) (h : i < m) where
-  pub lining_split : first (map (line_fault s) (range_with_len 2 m)) ≡ first (line_fault s (i + 2) ∷ map (line_fault s) (range_with_len ((i + 1) + 2) (m - (i + 1))))
+  abbrev behind_it : List (Bool × Refusal)
+  behind_it = flat_map (line_checks s) (range_with_len ((i + 1) + 2) (m - (i + 1)))
+
+  -- the next line, and those behind it
+  lining_split : first_refusal (flat_map (line_checks s) (range_with_len 2 m)) ≡ first_refusal (line_checks s (i + 2) ++ behind_it)
   lining_split =
       let e : (i + 2) + 1 ≡ (i + 1) + 2 = omega arith in
       let k : (m - i) - 1 ≡ m - (i + 1) = omega arith in
-      z.faults ∙ ap (λ ls. first (map (line_fault s) ls)) (from_next (i + 2) (m - i) (omega arith) ∙ ap (λ a. (i + 2) ∷ range_with_len a ((m - i) - 1)) e ∙ ap (λ a. (i + 2) ∷ range_with_len ((i + 1) + 2) a) k)
+      z.rest ∙ ap (λ ls. first_refusal (flat_map (line_checks s) ls)) (from_next (i + 2) (m - i) (omega arith) ∙ ap (λ a. (i + 2) ∷ range_with_len a ((m - i) - 1)) e ∙ ap (λ a. (i + 2) ∷ range_with_len ((i + 1) + 2) a) k)
 
-  pub lining_stop : (e : Refusal) → line_fault s (i + 2) ≡ Some e → first (map (line_fault s) (range_with_len 2 m)) ≡ Some e
-  lining_stop e f = lining_split ∙ ap (λ o. first (o ∷ map (line_fault s) (range_with_len ((i + 1) + 2) (m - (i + 1))))) f
+  pub lining_stop : (e : Refusal) → first_refusal (line_checks s (i + 2)) ≡ Some e → first_refusal (flat_map (line_checks s) (range_with_len 2 m)) ≡ Some e
+  lining_stop e f = lining_split ∙ before (line_checks s (i + 2)) behind_it e f
 
-  pub lining_next : line_fault s (i + 2) ≡ None → (mask : ℕ) → mask ≡ mask_at s (i + 2) → above < mask → mask < 2 ^ n
+  pub lining_next : first_refusal (line_checks s (i + 2)) ≡ None → (mask : ℕ) → mask ≡ mask_at s (i + 2) → above < mask → mask < 2 ^ n
       → (line' : ℕ) → line' ≡ line + 1 → Lining s n m (i + 1) line' mask (set masks i mask)
   lining_next f mask me lt un line' le =
       let in_range : i < length masks = omega (arith, z.long) in
@@ -44,7 +50,7 @@ module _ (s : List ℕ) (n m i line above : ℕ) (masks : List ℕ) (z : Lining 
       record {
         at = omega (arith, z.at);
         long = omega (arith, length-set masks i mask, z.long);
-        faults = lining_split ∙ ap (λ o. first (o ∷ map (line_fault s) (range_with_len ((i + 1) + 2) (m - (i + 1))))) f;
+        rest = lining_split ∙ behind (line_checks s (i + 2)) behind_it f;
         last = me ∙ sym (above_next s i);
         each = λ g l. ⊎_elim (λ (e : g ≡ i). subst (λ x. get_or (set masks i mask) x 0 ≡ mask_at s (x + 2)) (sym e) (here ∙ me)) (λ (ne : g ≡ i → ⊥). there g (omega arith) ∙ z.each g (omega arith)) (cases_eq g i);
         within = λ g l. ⊎_elim (λ (e : g ≡ i). subst (λ x. (1 ≤ get_or (set masks i mask) x 0) × (get_or (set masks i mask) x 0 < 2 ^ n)) (sym e) (omega (arith, here), omega (arith, here))) (λ (ne : g ≡ i → ⊥). (omega (arith, there g (omega arith), (z.within g (omega arith)).0), omega (arith, there g (omega arith), (z.within g (omega arith)).1))) (cases_eq g i);
@@ -65,46 +71,49 @@ lining_all s n m i line above masks rest all z e is long =
     let k : m - i ≡ 0 = omega arith in
     let front : (g : ℕ) → g < m → get_or all g 0 ≡ get_or masks g 0 = λ g h. ap (λ x. get_or x g 0) is ∙ get_or_append_left masks rest 0 g (omega (arith, z.long)) in
     record {
-      faultless = z.faults ∙ ap (λ j. first (map (line_fault s) (range_with_len (i + 2) j))) k;
+      passed = z.rest ∙ ap (λ j. first_refusal (flat_map (line_checks s) (range_with_len (i + 2) j))) k;
       each = λ g h. front g h ∙ z.each g (omega arith);
       within = λ g h. (omega (arith, front g h, (z.within g (omega arith)).0), omega (arith, front g h, (z.within g (omega arith)).1));
       rising = λ g h. omega (arith, front g (omega arith), front (g + 1) h, z.rising g (omega arith));
       long = long;
     }
 
--- the four parts of a sheet's fault, in their order
+-- the four parts of a sheet's checks, in their order
 module _ (s : List ℕ) where
-  pub fault_form : formed s ≡ false → fault_of s ≡ Some Layout
-  unfolding fault_of
-  fault_form f = ap (λ b. first (check b Layout ∷ first (heading_faults s) ∷ groups_fault s ∷ map (line_fault s) (range_with_len 2 (line_count s - 1)))) f
+  abbrev form : List (Bool × Refusal)
+  form = (formed s, Layout) ∷ []
 
-  pub past_form : formed s ≡ true → fault_of s ≡ first (first (heading_faults s) ∷ groups_fault s ∷ map (line_fault s) (range_with_len 2 (line_count s - 1)))
-  unfolding fault_of
-  past_form f = ap (λ b. first (check b Layout ∷ first (heading_faults s) ∷ groups_fault s ∷ map (line_fault s) (range_with_len 2 (line_count s - 1)))) f
+  abbrev pub lines : List (Bool × Refusal)
+  lines = flat_map (line_checks s) (range_with_len 2 (line_count s - 1))
 
-  pub fault_heading : formed s ≡ true → (e : Refusal) → first (heading_faults s) ≡ Some e → fault_of s ≡ Some e
-  fault_heading f e h = past_form f ∙ ap (λ o. first (o ∷ groups_fault s ∷ map (line_fault s) (range_with_len 2 (line_count s - 1)))) h
+  form_stops : formed s ≡ false → first_refusal form ≡ Some Layout
+  form_stops f = ap (λ b. first_refusal ((b, Layout) ∷ [])) f
 
-  pub past_heading : formed s ≡ true → first (heading_faults s) ≡ None → fault_of s ≡ first (groups_fault s ∷ map (line_fault s) (range_with_len 2 (line_count s - 1)))
-  past_heading f h = past_form f ∙ ap (λ o. first (o ∷ groups_fault s ∷ map (line_fault s) (range_with_len 2 (line_count s - 1)))) h
+  form_passes : formed s ≡ true → first_refusal form ≡ None
+  form_passes f = ap (λ b. first_refusal ((b, Layout) ∷ [])) f
 
-  pub fault_groups : formed s ≡ true → first (heading_faults s) ≡ None → groups_fault s ≡ Some Groups → fault_of s ≡ Some Groups
-  fault_groups f h g = past_heading f h ∙ ap (λ o. first (o ∷ map (line_fault s) (range_with_len 2 (line_count s - 1)))) g
+  pub stop_form : formed s ≡ false → first_refusal (checks s) ≡ Some Layout
+  unfolding checks
+  stop_form f = before (form ++ heading_checks s ++ groups_check s ∷ []) lines Layout (before (form ++ heading_checks s) (groups_check s ∷ []) Layout (before form (heading_checks s) Layout (form_stops f)))
 
-  pub past_groups : formed s ≡ true → first (heading_faults s) ≡ None → groups_fault s ≡ None → fault_of s ≡ first (map (line_fault s) (range_with_len 2 (line_count s - 1)))
-  past_groups f h g = past_heading f h ∙ ap (λ o. first (o ∷ map (line_fault s) (range_with_len 2 (line_count s - 1)))) g
+  pub stop_heading : formed s ≡ true → (e : Refusal) → first_refusal (heading_checks s) ≡ Some e → first_refusal (checks s) ≡ Some e
+  unfolding checks
+  stop_heading f e h = before (form ++ heading_checks s ++ groups_check s ∷ []) lines e (before (form ++ heading_checks s) (groups_check s ∷ []) e (behind form (heading_checks s) (form_passes f) ∙ h))
 
-  -- no fault: none of the parts has one
-  pub first_none : (o : Option Refusal) (os : List (Option Refusal)) → first (o ∷ os) ≡ None → (o ≡ None) × (first os ≡ None)
-  first_none None os h = (refl, h)
-  first_none (Some e) os h = absurd (none-some e (sym h))
+  pub stop_groups : formed s ≡ true → first_refusal (heading_checks s) ≡ None → (e : Refusal) → first_refusal (groups_check s ∷ []) ≡ Some e → first_refusal (checks s) ≡ Some e
+  unfolding checks
+  stop_groups f h e g = before (form ++ heading_checks s ++ groups_check s ∷ []) lines e (behind (form ++ heading_checks s) (groups_check s ∷ []) (both_pass form (heading_checks s) (form_passes f) h) ∙ g)
+
+  pub past_groups : formed s ≡ true → first_refusal (heading_checks s) ≡ None → first_refusal (groups_check s ∷ []) ≡ None → first_refusal (checks s) ≡ first_refusal lines
+  unfolding checks
+  past_groups f h g = behind (form ++ heading_checks s ++ groups_check s ∷ []) lines (both_pass (form ++ heading_checks s) (groups_check s ∷ []) (both_pass form (heading_checks s) (form_passes f) h) g)
 
 pub at_line : {X : Type 0} (F : List ℕ → ℕ → X) (s s' : List ℕ) (l l' : ℕ) → s ≡ s' → l ≡ l' → F s l ≡ F s' l'
 at_line F s s' l l' p q = ap (λ x. F x l) p ∙ ap (F s') q
 
 module _ (s : List ℕ) (g h : ℕ) (gm : g ≡ m_of s) (hm : h ≡ h_of s) where
-  pub fits_is : (b : Bool) → b ≡ (eqb (g + 1) (line_count s) && leb g (2 ^ h)) → groups_fault s ≡ check b Groups
-  fits_is b e = sym (ap (λ x. check x Groups) (e ∙ ap (λ x. eqb (x + 1) (line_count s) && leb x (2 ^ h)) gm ∙ ap (λ x. eqb (m_of s + 1) (line_count s) && leb (m_of s) (2 ^ x)) hm))
+  pub fits_is : (b : Bool) → b ≡ (eqb (g + 1) (line_count s) && leb g (2 ^ h)) → first_refusal (groups_check s ∷ []) ≡ first_refusal ((b, Groups) ∷ [])
+  fits_is b e = sym (ap (λ x. first_refusal ((x, Groups) ∷ [])) (e ∙ ap (λ x. eqb (x + 1) (line_count s) && leb x (2 ^ h)) gm ∙ ap (λ x. eqb (m_of s + 1) (line_count s) && leb (m_of s) (2 ^ x)) hm))
 
 pub fits_count : (s : List ℕ) (g h : ℕ) → true ≡ (eqb (g + 1) (line_count s) && leb g (2 ^ h)) → (g + 1 ≡ line_count s) × (g ≤ 2 ^ h)
 fits_count s g h e = let p = and_parts _ _ (sym e) in (eqb-true _ _ p.0, leb-true _ _ p.1)

@@ -1,10 +1,9 @@
 -- Where the fields and lines of a joined text stand.
-use Rattle.std.proofs.Common.{◌≡◌, ℕ, zero, suc, ◌+◌, ◌-◌, ◌*◌, ◌<◌, ◌≤◌, Bool, true, List, [], ◌∷◌, ◌++◌, map, length, get_or, take, drop, None, Option, sym, refl, ap, ◌∙◌, append_assoc, mul-one, mul-add, arith}
+use Rattle.std.proofs.Common.{◌≡◌, ℕ, zero, suc, ◌+◌, ◌-◌, ◌*◌, ◌<◌, ◌≤◌, Bool, true, List, [], ◌∷◌, ◌++◌, map, length, get_or, take, drop, sym, refl, ap, ◌∙◌, append_assoc, mul-one, mul-add, arith}
 use Rattle.std.specs.List.{flat_map, range_with_len, list_all}
 use Rattle.std.proofs.lemmas.List.{take_at, drop_at, drop-drop, get_or_at, get_or-drop, length-append}
 use Rattle.std.proofs.lemmas.Bool.{eq-eqb, and_from}
-use Rattle.plan_sheet.specs.declared.refusal.Refusal.{Refusal}
-use Rattle.plan_sheet.specs.Checks.{first, fed, field_at}
+use Rattle.plan_sheet.specs.Checks.{fed, field_at}
 
 pub times_suc : (w k : ℕ) → w * suc k ≡ w + w * k
 times_suc w k = let e : suc k ≡ 1 + k = omega arith in ap (λ j. w * j) e ∙ mul-add w 1 k ∙ ap (λ z. z + w * k) (mul-one w)
@@ -37,10 +36,6 @@ map_from V a [] h = refl
 map_from V a (x ∷ xs) h =
     let z : a ≡ 0 + a = omega arith in
     ap (λ y. y ∷ map V (range_with_len (a + 1) (length xs))) (ap V z ∙ h 0 (omega arith)) ∙ ap (λ ys. x ∷ ys) (map_from V (a + 1) xs (λ i l. let e : i + (a + 1) ≡ suc i + a = omega arith in ap V e ∙ h (suc i) (omega arith)))
-
-pub first_all : (F : ℕ → Option Refusal) (a k : ℕ) (os : List (Option Refusal)) → ((g : ℕ) → a ≤ g → g < a + k → F g ≡ None) → first (map F (range_with_len a k) ++ os) ≡ first os
-first_all F a zero os h = refl
-first_all F a (suc k) os h = ap (λ o. first (o ∷ (map F (range_with_len (a + 1) k) ++ os))) (h a (omega arith) (omega arith)) ∙ first_all F (a + 1) k os (λ g l u. h g (omega arith) (omega arith))
 
 pub all_tested : (test : ℕ → Bool) (a k : ℕ) → ((g : ℕ) → a ≤ g → g < a + k → test g ≡ true) → list_all test (range_with_len a k) ≡ true
 all_tested test a zero h = refl

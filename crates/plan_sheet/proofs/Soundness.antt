@@ -1,30 +1,31 @@
--- A sheet without a fault is the one sheet of the plan that it says.
+-- A sheet that passes is the one sheet of the plan that it says.
 use Rattle.std.proofs.Common.{◌≡◌, ℕ, zero, suc, ◌+◌, ◌^◌, ◌<◌, ◌≤◌, List, [], ◌∷◌, ◌++◌, map, length, get_or, take, drop, sym, ap, ◌∙◌, arith}
 use Rattle.std.specs.List.{flat_map, range_with_len}
 use Rattle.std.proofs.lemmas.Bool.{ltb-true, and_parts}
 use Rattle.plan.specs.Shape.{Valid, is_groups}
 use Rattle.columns.specs.Number.{right}
 use Rattle.plan_sheet.specs.Written.{written, heading, group_line}
-use Rattle.plan_sheet.specs.Checks.{field_at, worth, entry_fault, entries, mask_at, above_at, line_fault, members_fault, n_of, h_of, w_of, m_of}
+use Rattle.plan_sheet.specs.Checks.{field_at, worth, field_checks, entries, mask_at, above_at, line_checks, members_check, n_of, h_of, w_of, m_of}
 use Rattle.plan_sheet.specs.Law.{plan_of, Sound}
 use Rattle.plan_sheet.proofs.Lines.{above_next}
 use Rattle.plan_sheet.proofs.Fields.{trustees_most}
-use Rattle.plan_sheet.proofs.Cells.{check_none, field_is, mask_under}
-use Rattle.plan_sheet.proofs.Law.{Faultless, faultless, first_map, field_long, under_from, length_from, line_is, pieces, groups_are}
+use Rattle.plan_sheet.proofs.Passing.{first_passes, parts_pass, each_passes}
+use Rattle.plan_sheet.proofs.Cells.{field_is, mask_under}
+use Rattle.plan_sheet.proofs.Law.{Passed, passed, field_long, under_from, length_from, line_is, pieces, groups_are}
 
 pub get_or_from : (V : ℕ → ℕ) (a k g : ℕ) → g < k → get_or (map V (range_with_len a k)) g 0 ≡ V (g + a)
 get_or_from V a zero g h = absurd (omega arith)
 get_or_from V a (suc k) zero h = let e : a ≡ 0 + a = omega arith in ap V e
 get_or_from V a (suc k) (suc g) h = let e : g + (a + 1) ≡ suc g + a = omega arith in get_or_from V (a + 1) k g (omega arith) ∙ ap V e
 
-module _ (s : List ℕ) (z : Faultless s) where
+module _ (s : List ℕ) (z : Passed s) where
   pub mask_in : (l : ℕ) → 2 ≤ l → l < 2 + m_of s → (above_at s l < mask_at s l) × (mask_at s l < 2 ^ n_of s)
-  unfolding line_fault
+  unfolding line_checks
   mask_in l low high =
       let n8 = trustees_most (n_of s) z.n_in in
-      let p = first_map (entry_fault s l) 1 8 (members_fault s l ∷ []) (z.lines l low high) in
-      let o = and_parts _ _ (check_none _ _ _ p.1).0 in
-      let one = λ (g : ℕ) (a : 1 ≤ g) (b : g < 1 + 8). field_is (n_of s) l g (field_at 3 s l g) (field_long 3 s l g a (omega arith) (omega arith) (omega (arith, z.whole, z.count))) (p.0 g a b) in
+      let p = parts_pass (flat_map (field_checks s l) (range_with_len 1 8)) (members_check s l ∷ []) (z.lines l low high) in
+      let o = and_parts _ _ (first_passes _ _ _ p.1).0 in
+      let one = λ (g : ℕ) (a : 1 ≤ g) (b : g < 1 + 8). field_is (n_of s) l g (field_at 3 s l g) (field_long 3 s l g a (omega arith) (omega arith) (omega (arith, z.whole, z.count))) (each_passes (field_checks s l) 1 8 p.0 g a b) in
       let u = under_from (n_of s) (λ g. worth (field_at 3 s l g)) 1 8 (λ g a b. (one g a b).1) in
       let v = under_from 8 (λ g. worth (field_at 3 s l g)) 1 8 (λ g a b. omega (arith, (one g a b).1)) in
       let m = mask_under (n_of s) 0 (entries s l 1 8) n8 (omega arith) o.0 u v in
@@ -63,4 +64,4 @@ module _ (s : List ℕ) (z : Faultless s) where
       ∙ ap (λ m. heading (n_of s) (h_of s) (w_of s) m ++ rest) long
 
 pub sound : Sound
-sound s h = (valid s (faultless s h), sheet_is s (faultless s h))
+sound s h = (valid s (passed s h), sheet_is s (passed s h))

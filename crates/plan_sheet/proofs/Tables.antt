@@ -1,5 +1,5 @@
 -- The 256 masks: their members, spread over eight fields.
-use Rattle.std.proofs.Common.{◌≡◌, ℕ, zero, suc, ◌+◌, ◌-◌, ◌*◌, ◌^◌, ◌<◌, ◌≤◌, Bool, true, not, ◌&&◌, ◌||◌, eqb, ltb, leb, List, [], ◌∷◌, ◌++◌, length, get_or, replicate, sym, refl, ap, ◌∙◌, ⊎_elim, append_assoc, arith, pow_mono}
+use Rattle.std.proofs.Common.{◌≡◌, ℕ, zero, suc, ◌+◌, ◌-◌, ◌*◌, ◌^◌, ◌<◌, ◌≤◌, Bool, true, not, ◌&&◌, ◌||◌, eqb, ltb, leb, List, [], ◌∷◌, ◌++◌, length, get_or, replicate, Some, sym, refl, ap, ◌∙◌, ⊎_elim, append_assoc, arith, pow_mono}
 use Rattle.std.specs.List.{flat_map, range_with_len, list_all}
 use Rattle.std.proofs.lemmas.List.Sums.{AllPass-from_list_all}
 use Rattle.std.proofs.lemmas.List.{length-append, length-replicate, replicate-append-replicate}
@@ -19,7 +19,7 @@ spread mask = members mask ++ replicate (8 - length (members mask)) 0
 abbrev pub spread_well : ℕ → Bool
 spread_well mask =
     (leb (length (members mask)) 8 && list_all (λ t. ltb 0 t) (members mask))
-    && ((orderly 0 (spread mask) && eqb (mask_of (spread mask)) mask)
+    && ((orderly (Some 0) (spread mask) && eqb (mask_of (spread mask)) mask)
     && list_all (λ n. not (ltb mask (2 ^ n)) || list_all (λ t. leb t n) (spread mask)) (range_with_len 1 8))
 
 pub all_spread_well : list_all spread_well (range_with_len 0 256) ≡ true
@@ -43,7 +43,7 @@ length_cell t h =
 
 pub record Spread (n mask : ℕ) (es : List ℕ) : Type 0 where
   pub long : length es ≡ 8
-  pub order : orderly 0 es ≡ true
+  pub order : orderly (Some 0) es ≡ true
   pub sum : mask_of es ≡ mask
   pub text : group_line mask ≡ flat_map cell es ++ 10 ∷ []
   pub under : (i : ℕ) → i < 8 → get_or es i 0 ≤ n

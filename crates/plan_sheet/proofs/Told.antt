@@ -1,38 +1,39 @@
 -- What the reader's answers say of plans.
 use Rattle.std.proofs.Common.{◌≡◌, ℕ, ◌+◌, ◌-◌, ◌^◌, true, false, ◌&&◌, eqb, leb, List, map, length, take, Some, None, Option, sym, ap, ◌∙◌, subst, arith}
-use Rattle.std.specs.List.{range_with_len}
+use Rattle.std.specs.List.{flat_map, range_with_len}
+use Rattle.checks.specs.Checks.{first_refusal}
 use Rattle.std.proofs.lemmas.List.{ext_get_or, length-take-le, get_or-take}
 use Rattle.std.proofs.lemmas.Option.{none-some}
 use Rattle.plan.specs.Shape.{Shape, Valid}
 use Rattle.plan_sheet.specs.declared.refusal.Refusal.{Refusal}
 use Rattle.plan_sheet.specs.declared.refusal.Refusal.TheVariants.{Groups}
 use Rattle.plan_sheet.specs.Written.{written}
-use Rattle.plan_sheet.specs.Checks.{first, formed, line_fault, line_count, mask_at, Headed, Lined, fault_of}
+use Rattle.plan_sheet.specs.Checks.{formed, line_checks, line_count, mask_at, Headed, Lined, checks}
 use Rattle.plan_sheet.specs.Law.{plan_of}
 use Rattle.plan_sheet.proofs.Fields.{groups_most}
 use Rattle.plan_sheet.proofs.Law.{length_from}
-use Rattle.plan_sheet.proofs.Lines.{fault_groups, past_groups, fits_is, fits_count}
+use Rattle.plan_sheet.proofs.Lines.{stop_groups, past_groups, fits_is, fits_count}
 use Rattle.plan_sheet.proofs.Soundness.{sound, get_or_from}
 use Rattle.plan_sheet.proofs.Completeness.{complete, shape}
 
-pub no_plan : (s : List ℕ) (e : Refusal) → fault_of s ≡ Some e → (q : Shape) → Valid q → s ≡ written q → ⊥
-no_plan s e f q v is = none-some e (sym (ap fault_of is ∙ (complete q v).0) ∙ f)
+pub no_plan : (s : List ℕ) (e : Refusal) → first_refusal (checks s) ≡ Some e → (q : Shape) → Valid q → s ≡ written q → ⊥
+no_plan s e f q v is = none-some e (sym (ap (λ x. first_refusal (checks x)) is ∙ (complete q v).0) ∙ f)
 
--- a sheet of whole lines whose heading has no fault
+-- a sheet of whole lines whose heading passes
 module _ (s : List ℕ) (whole : formed s ≡ true) (n h w m : ℕ) (head : Headed s n h w m) where
-  pub wrong_count : false ≡ (eqb (m + 1) (line_count s) && leb m (2 ^ h)) → fault_of s ≡ Some Groups
-  wrong_count e = fault_groups s whole head.faultless (fits_is s m h head.m_is head.h_is false e)
+  pub wrong_count : false ≡ (eqb (m + 1) (line_count s) && leb m (2 ^ h)) → first_refusal (checks s) ≡ Some Groups
+  wrong_count e = stop_groups s whole head.passed Groups (fits_is s m h head.m_is head.h_is false e)
 
   -- and that has as many group lines as it says
   module _ (fits : true ≡ (eqb (m + 1) (line_count s) && leb m (2 ^ h))) where
-    pub lines_fault : (o : Option Refusal) → first (map (line_fault s) (range_with_len 2 m)) ≡ o → fault_of s ≡ o
-    lines_fault o e =
+    pub lines_decide : (o : Option Refusal) → first_refusal (flat_map (line_checks s) (range_with_len 2 m)) ≡ o → first_refusal (checks s) ≡ o
+    lines_decide o e =
         let count : line_count s - 1 ≡ m = omega (arith, (fits_count s m h fits).0) in
-        past_groups s whole head.faultless (fits_is s m h head.m_is head.h_is true fits) ∙ ap (λ k. first (map (line_fault s) (range_with_len 2 k))) count ∙ e
+        past_groups s whole head.passed (fits_is s m h head.m_is head.h_is true fits) ∙ ap (λ k. first_refusal (flat_map (line_checks s) (range_with_len 2 k))) count ∙ e
 
     module _ (masks : List ℕ) (lines : Lined s n m masks) where
-      pub faultless : fault_of s ≡ None
-      faultless = lines_fault None lines.faultless
+      pub passes : first_refusal (checks s) ≡ None
+      passes = lines_decide None lines.passed
 
       masks_are : take m masks ≡ map (mask_at s) (range_with_len 2 m)
       masks_are =
@@ -49,10 +50,10 @@ module _ (s : List ℕ) (whole : formed s ≡ true) (n h w m : ℕ) (head : Head
           (λ i. shape (sym head.n_is i) (sym head.h_is i) (sym head.w_is i) (parts i)) ∙ ap (λ k. shape n h w (take k masks)) all
 
       pub valid : Valid (shape n h w (take (m - 0) masks))
-      valid = subst Valid says (sound s faultless).0
+      valid = subst Valid says (sound s passes).0
 
       pub is_written : s ≡ written (shape n h w (take (m - 0) masks))
-      is_written = (sound s faultless).1 ∙ ap written says
+      is_written = (sound s passes).1 ∙ ap written says
 
       pub only : (q : Shape) → Valid q → s ≡ written q → shape n h w (take (m - 0) masks) ≡ q
       only q v e = sym says ∙ ap plan_of e ∙ (complete q v).1

@@ -11,7 +11,11 @@ heading n h w m = flat_map (right 6) (n ∷ h ∷ w ∷ m ∷ []) ++ 10 ∷ []
 
 -- trustee numbers in eight fields of 3, blank at the end
 abbrev pub group_line : ℕ → List ℕ
-group_line mask = flat_map (right 3) (members mask) ++ spaces (24 - 3 * length (members mask)) ++ 10 ∷ []
+group_line mask =
+    flat_map (right 3) (members mask)
+    ++ spaces (24 - 3 * length (members mask))
+    ++ 10 ∷ []
 
+-- a plan's sheet: its heading, and a line for each group
 unfoldable pub written : Shape → List ℕ
 written p = heading p.trustees p.height p.width (length p.masks) ++ flat_map group_line p.masks

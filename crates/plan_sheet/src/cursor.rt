@@ -1,10 +1,11 @@
 // A cursor over a plan sheet, whose methods yield fields with their place.
-ghost use Rattle.std.specs.Prelude.{◌≡◌, ◌+◌, ◌-◌, ◌*◌, ◌^◌, ◌<◌, ◌≤◌, true, ◌&&◌, map, length, is_some, Some, None, MatchResult, ◌==◌, nat_le, nat_lt};
+ghost use Rattle.std.specs.Prelude.{◌≡◌, ◌+◌, ◌-◌, ◌*◌, ◌^◌, ◌<◌, ◌≤◌, true, ◌&&◌, length, is_some, Some, None, MatchResult, ◌==◌, nat_le, nat_lt};
 ghost use Rattle.std.specs.Option.{unwrap_or};
 ghost use Rattle.columns.specs.Number.{number, blank};
-ghost use Rattle.plan_sheet.specs.Checks.{Gives, field_at, worth, entry_faults, quantity_fault, heading_faults, Headed, n_of};
-ghost use Rattle.plan_sheet.specs.Checks.{first, line_fault, mask_at, above_at, Lined};
-ghost use Rattle.std.specs.List.{range_with_len};
+ghost use Rattle.checks.specs.Checks.{first_refusal};
+ghost use Rattle.plan_sheet.specs.Checks.{Gives, field_at, worth, entry_checks, quantity_checks, heading_checks, Headed, n_of};
+ghost use Rattle.plan_sheet.specs.Checks.{line_checks, mask_at, above_at, Lined};
+ghost use Rattle.std.specs.List.{range_with_len, flat_map};
 ghost use Rattle.sizes.specs.Sizes.{levels, bits};
 
 use crate::quantities::{Quantity, UpTo};
@@ -12,7 +13,8 @@ use crate::refusal::Refusal;
 use crate::tally::Tally;
 use sizes::{Height, Width};
 
-// Line and field are counted up by hand, since that is what a cursor is for. They count from 1: the line is one of the sheet's, and the field is at most one behind its last.
+// Line and field are counted up by hand, since that is what a cursor is for. They count from 1: the
+// line is one of the sheet's, and the field is at most one behind its last.
 #[derive(Drop)]
 pub(crate) struct Cursor<'s> {
     sheet: &'s [u8],
@@ -36,7 +38,8 @@ impl Field<'_> {
     pub(crate) fn number(&self) -> Result<u32, Refusal>
         ensures { MatchResult result
             (λ v. number self.now.bytes.now ≡ Some v)
-            (λ e. (number self.now.bytes.now ≡ None) × (e ≡ Refusal.NoNumber self.now.line self.now.field)) }
+            (λ e. (number self.now.bytes.now ≡ None)
+            × (e ≡ Refusal.NoNumber self.now.line self.now.field)) }
     {
         columns::number_in(self.bytes).ok_or(Refusal::NoNumber {
             line: self.line,
@@ -61,8 +64,10 @@ impl Field<'_> {
 
     // The quantity in it, of a heading.
     pub(crate) fn quantity<Q: Quantity>(&self) -> Result<Q, Refusal>
-        ensures { Gives (quantity_fault Q.Quantity.allowed self.now.line self.now.field self.now.bytes.now)
-            (λ q. (Q.Quantity.amount q ≡ worth self.now.bytes.now) × (Q.Quantity.allowed (Q.Quantity.amount q) ≡ true)) result }
+        ensures { Gives
+            (quantity_checks Q.allowed self.now.line self.now.field self.now.bytes.now)
+            (λ q. (Q.amount q ≡ worth self.now.bytes.now) × (Q.allowed (Q.amount q) ≡ true))
+            result }
     {
         let number = self.number()?;
         Q::of(number).ok_or(self.out_of_range())
@@ -70,8 +75,11 @@ impl Field<'_> {
 
     // The trustee in it, or none where it is blank.
     pub(crate) fn trustee(&self, trustees: u8) -> Result<Option<u8>, Refusal>
-        ensures { Gives (entry_faults trustees self.now.line self.now.field self.now.bytes.now)
-            (λ t. (unwrap_or t 0 ≡ worth self.now.bytes.now) × (unwrap_or t 0 ≤ trustees) × (is_some t ≡ nat_lt 0 (unwrap_or t 0))) result }
+        ensures { Gives
+            (entry_checks trustees self.now.line self.now.field self.now.bytes.now)
+            (λ t. (unwrap_or t 0 ≡ worth self.now.bytes.now) × (unwrap_or t 0 ≤ trustees)
+            × (is_some t ≡ nat_lt 0 (unwrap_or t 0)))
+            result }
     {
         if self.is_blank() {
             return Ok(None);
@@ -100,10 +108,12 @@ impl<'s> Cursor<'s> {
     pub(crate) fn next(&mut self, columns: usize) -> Field<'s>
         requires short { columns ≤ 9 }
         requires field { (columns * self.old.field ≤ 24) × (self.old.field ≤ 8) }
-        ensures bytes { result.bytes.now ≡ field_at columns self.old.sheet.now self.old.line self.old.field }
+        ensures bytes { result.bytes.now
+            ≡ field_at columns self.old.sheet.now self.old.line self.old.field }
         ensures len { length result.bytes.now ≡ columns }
         ensures place { (result.line ≡ self.old.line) × (result.field ≡ self.old.field) }
-        ensures moved { (self.new.sheet.now ≡ self.old.sheet.now) × (self.new.line ≡ self.old.line) × (self.new.field ≡ self.old.field + 1) }
+        ensures moved { (self.new.sheet.now ≡ self.old.sheet.now)
+            × (self.new.line ≡ self.old.line) × (self.new.field ≡ self.old.field + 1) }
     {
         let at = 25 * (self.line - 1) + columns * (self.field - 1);
         let sheet = self.sheet;
@@ -118,7 +128,8 @@ impl<'s> Cursor<'s> {
 
     pub(crate) fn next_line(&mut self)
         requires { 25 * (self.old.line + 1) ≤ length self.old.sheet.now }
-        ensures { (self.new.sheet.now ≡ self.old.sheet.now) × (self.new.line ≡ self.old.line + 1) × (self.new.field ≡ 1) }
+        ensures { (self.new.sheet.now ≡ self.old.sheet.now)
+            × (self.new.line ≡ self.old.line + 1) × (self.new.field ≡ 1) }
     {
         self.line += 1;
         self.field = 1;
@@ -127,9 +138,13 @@ impl<'s> Cursor<'s> {
     // The next quantity of the heading.
     pub(crate) fn quantity<Q: Quantity>(&mut self) -> Result<Q, Refusal>
         requires { self.old.field ≤ 4 }
-        ensures value { Gives (quantity_fault Q.Quantity.allowed self.old.line self.old.field (field_at 6 self.old.sheet.now self.old.line self.old.field))
-            (λ q. (Q.Quantity.amount q ≡ worth (field_at 6 self.old.sheet.now self.old.line self.old.field)) × (Q.Quantity.allowed (Q.Quantity.amount q) ≡ true)) result }
-        ensures moved { (self.new.sheet.now ≡ self.old.sheet.now) × (self.new.line ≡ self.old.line) × (self.new.field ≡ self.old.field + 1) }
+        ensures value { let bytes = field_at 6 self.old.sheet.now self.old.line self.old.field in
+            Gives
+            (quantity_checks Q.allowed self.old.line self.old.field bytes)
+            (λ q. (Q.amount q ≡ worth bytes) × (Q.allowed (Q.amount q) ≡ true))
+            result }
+        ensures moved { (self.new.sheet.now ≡ self.old.sheet.now)
+            × (self.new.line ≡ self.old.line) × (self.new.field ≡ self.old.field + 1) }
     {
         self.next(6).quantity()
     }
@@ -139,8 +154,9 @@ impl<'s> Cursor<'s> {
         requires field { self.old.field ≡ 1 }
         ensures value { MatchResult result
             (λ h. Headed self.old.sheet.now h.trustees (levels h.height) (bits h.width) h.groups)
-            (λ e. first (heading_faults self.old.sheet.now) ≡ Some e) }
-        ensures moved { (self.new.sheet.now ≡ self.old.sheet.now) × (self.new.line ≡ self.old.line) }
+            (λ e. first_refusal (heading_checks self.old.sheet.now) ≡ Some e) }
+        ensures moved { (self.new.sheet.now ≡ self.old.sheet.now)
+            × (self.new.line ≡ self.old.line) }
     {
         let trustees: UpTo<8> = self.quantity()?;
         let height: Height = self.quantity()?;
@@ -161,9 +177,12 @@ impl Cursor<'_> {
         requires field { self.old.field ≡ 1 }
         requires trustees { (trustees ≤ 8) × (trustees ≡ n_of self.old.sheet.now) }
         requires above { above ≡ above_at self.old.sheet.now self.old.line }
-        ensures value { Gives (line_fault self.old.sheet.now self.old.line)
-            (λ m. (m ≡ mask_at self.old.sheet.now self.old.line) × (above < m) × (m < 2 ^ trustees)) result }
-        ensures moved { (self.new.sheet.now ≡ self.old.sheet.now) × (self.new.line ≡ self.old.line) }
+        ensures value { Gives
+            (line_checks self.old.sheet.now self.old.line)
+            (λ m. (m ≡ mask_at self.old.sheet.now self.old.line) × (above < m) × (m < 2 ^ trustees))
+            result }
+        ensures moved { (self.new.sheet.now ≡ self.old.sheet.now)
+            × (self.new.line ≡ self.old.line) }
     {
         let mut tally = Tally::new();
         for _ in 0..8usize {
@@ -179,11 +198,13 @@ impl Cursor<'_> {
 impl Cursor<'_> {
     // The masks of all group lines, at the front of an array, since reading a sheet needs no heap.
     pub(crate) fn groups(&mut self, trustees: u8, groups: usize) -> Result<[u8; 70], Refusal>
-        requires place { (self.old.line ≡ 1) × ((25 * (groups + 1) ≤ length self.old.sheet.now) × (groups ≤ 70)) }
+        requires place { (self.old.line ≡ 1)
+            × ((25 * (groups + 1) ≤ length self.old.sheet.now) × (groups ≤ 70)) }
         requires trustees { (trustees ≤ 8) × (trustees ≡ n_of self.old.sheet.now) }
         ensures { MatchResult result
             (λ masks. Lined self.old.sheet.now trustees groups masks)
-            (λ e. first (map (line_fault self.old.sheet.now) (range_with_len 2 groups)) ≡ Some e) }
+            (λ e. let lines = flat_map (line_checks self.old.sheet.now) (range_with_len 2 groups) in
+            first_refusal lines ≡ Some e) }
     {
         let mut masks = [0u8; 70];
         let mut above = 0;
@@ -209,7 +230,8 @@ impl Heading {
     // Whether it fits a sheet of some lines.
     pub(crate) fn fits(&self, lines: usize) -> bool
         requires { self.now.groups ≤ 70 }
-        ensures { result ≡ (self.now.groups + 1 == lines && nat_le self.now.groups (2 ^ levels self.now.height)) }
+        ensures { result ≡ (self.now.groups + 1 == lines
+            && nat_le self.now.groups (2 ^ levels self.now.height)) }
     {
         self.groups + 1 == lines && self.groups <= self.height.keys() as usize
     }

@@ -1,4 +1,4 @@
-// The plan sheet: a planner's text, how it is read, and what the program prints of it.
+//! The plan sheet: a planner's text, how it is read, and what the program prints of it.
 #![tactic(auto)]
 
 mod cursor;

@@ -7,7 +7,8 @@ use crate::refusal::Refusal;
 use plan::{Group, Plan};
 use std::alloc::{AllocError, Global};
 
-// A line for each group of a plan, and one with the number of keys that are never dealt.
+/// A line for each group of a plan, with its number, first key, last key and number of members, and
+/// one with the number of keys that are never dealt, all in fields of six columns.
 pub fn ranges(heap: Global, plan: &Plan) -> Result<String, AllocError>
     ensures { IfOk result (λ t. string_bytes t ≡ printed (view plan.now)) }
 {

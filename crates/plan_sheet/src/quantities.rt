@@ -4,15 +4,17 @@ ghost use Rattle.sizes.specs.Sizes.{levels, bits, is_height, is_width};
 
 use sizes::{Height, Width};
 
-// What a number of the heading may be, and what it then is. `of` stands beside TryFrom, since a range has no type of its own elsewhere, and the
-// trait's meaning is what the sheet allows.
+// What a number of the heading may be, and what it then is. `of` stands beside TryFrom, since a
+// range has no type of its own elsewhere, and the trait's meaning is what the sheet allows.
 pub(crate) trait Quantity: Sized {
     ghost allowed: { ℕ → Bool };
 
     ghost amount: { Self → ℕ };
 
     fn of(number: u32) -> Option<Self>
-        ensures { MatchOption result (allowed number ≡ false) (λ q. (allowed number ≡ true) × (amount q ≡ number)) };
+        ensures { MatchOption result
+            (allowed number ≡ false)
+            (λ q. (allowed number ≡ true) × (amount q ≡ number)) };
 }
 
 // A number from 1 to `MOST`.

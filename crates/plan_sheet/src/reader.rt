@@ -4,7 +4,8 @@ ghost use Rattle.std.specs.List.{range_with_len, list_all};
 ghost use Rattle.std.specs.Result.{result_err};
 ghost use Rattle.plan.specs.Shape.{Shape, Valid};
 ghost use Rattle.plan.specs.View.{view};
-ghost use Rattle.plan_sheet.specs.Checks.{fed, formed, fault_of};
+ghost use Rattle.checks.specs.Checks.{first_refusal};
+ghost use Rattle.plan_sheet.specs.Checks.{fed, formed, checks};
 ghost use Rattle.plan_sheet.specs.Law.{Sound, Complete};
 ghost use Rattle.plan_sheet.specs.Written.{written};
 
@@ -12,13 +13,18 @@ use crate::cursor::Cursor;
 use crate::refusal::Refusal;
 use plan::Plan;
 
-// The plan that a sheet writes: it is read just if the sheet is that plan's, and otherwise the first check that fails is named.
-// Over all sheets and plans: a sheet has no fault just if it is the one sheet of a plan, and then it says that plan.
+/// The plan that a sheet writes: it is read just if the sheet is that plan's, and otherwise the
+/// first check that fails refuses it, with its line and field, which count from 1. Over all sheets
+/// and plans: a sheet passes all checks just if it is the one sheet of a plan, and then it says
+/// that plan.
 pub fn read(sheet: &[u8]) -> Result<Plan, Refusal>
-    ensures fault { result_err result ≡ fault_of sheet.now }
-    ensures written { MatchResult result (λ p. sheet.now ≡ written (view p)) (λ _. (q : Shape) → Valid q → sheet.now ≢ written q) }
+    ensures refusal { result_err result ≡ first_refusal (checks sheet.now) }
+    ensures written { MatchResult result
+        (λ p. sheet.now ≡ written (view p))
+        (λ _. (q : Shape) → Valid q → sheet.now ≢ written q) }
     ensures law { Sound × Complete }
-    ensures exactly { (q : Shape) → Valid q → sheet.now ≡ written q → MatchResult result (λ p. view p ≡ q) (λ _. ⊥) }
+    ensures exactly { (q : Shape) → Valid q → sheet.now ≡ written q →
+        MatchResult result (λ p. view p ≡ q) (λ _. ⊥) }
 {
     if !formed(sheet) {
         return Err(Refusal::Layout);

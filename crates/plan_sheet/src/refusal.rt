@@ -1,30 +1,35 @@
-// What is wrong with a plan sheet, and where: lines and fields count from 1. An enum of this crate's own, with exactly the cases that its
-// reader can give. Line and field are no struct of their own, since a case may have a line alone.
+// What is wrong with a plan sheet. Line and field are no struct of their own, since a case may have
+// a line alone.
 ghost use Rattle.std.specs.Prelude.{◌≡◌, Some};
 ghost use Rattle.plan_sheet.specs.Refusals.{number_of, line_of, field_of, places};
 
 use std::error::Error;
 use std::fmt;
 
+/// What is wrong with a plan sheet, and where: lines and fields count from 1. Its cases are exactly
+/// those that the reader can give.
 #[derive(Clone, Copy, PartialEq, Eq, Debug)]
 pub enum Refusal {
-    // The length is not that of whole lines, there are fewer than two, or a line lacks its line feed.
+    /// 1: the length is not that of whole lines of 25 bytes, there are fewer than two, or a line
+    /// lacks its line feed.
     Layout,
-    // A field that is no number.
+    /// 2: a field that is no number.
     NoNumber { line: usize, field: usize },
-    // A number outside its range.
+    /// 3: a number outside its range.
     OutOfRange { line: usize, field: usize },
-    // Members that do not rise, a gap among them, none at all, or a mask that is not above that of the line before.
+    /// 4: members that do not rise, a gap among them, none at all, or a mask that is not above that
+    /// of the line before.
     Members { line: usize },
-    // More or fewer group lines than the heading says, or more groups than keys.
+    /// 5: more or fewer group lines than the heading says, or more groups than keys.
     Groups,
 }
 
 impl Refusal {
-    // The public number, by a match, since the cases carry values and so have no numbers of their own.
+    /// The public number, which users and other implementations see.
     pub fn number(&self) -> usize
         ensures { result ≡ number_of self.now }
     {
+        // By a match, since the cases carry values and so have no numbers of their own.
         match self {
             Refusal::Layout => 1,
             Refusal::NoNumber { .. } => 2,
@@ -34,7 +39,7 @@ impl Refusal {
         }
     }
 
-    // The line at fault, or 0 where the whole sheet is.
+    /// The line at fault from 1, or 0 where the whole sheet is.
     pub fn line(&self) -> usize
         ensures { result ≡ line_of self.now }
     {
@@ -47,7 +52,7 @@ impl Refusal {
         }
     }
 
-    // The field at fault, or 0 where a whole line or the whole sheet is.
+    /// The field at fault from 1, or 0 where a whole line or the whole sheet is.
     pub fn field(&self) -> usize
         ensures { result ≡ field_of self.now }
     {
@@ -59,7 +64,7 @@ impl Refusal {
     }
 }
 
-// Its number, line and field, each in six columns.
+/// Prints its number, line and field, each in six columns.
 impl fmt::Display for Refusal {
     ghost output = { λ e. Some (places e) };
 

@@ -19,6 +19,13 @@ unfolding rows
 rows_same zero f g h = refl
 rows_same (suc n) f g h = ap₂ (λ a b. a ++ b) (rows_same n f g (λ i l. h i (omega arith))) (h n (omega arith))
 
+-- equally long rows make equally long strings
+pub rows_lengths : (n : ℕ) (f g : ℕ → List ℕ) → ((i : ℕ) → i < n → length (f i) ≡ length (g i)) → length (rows n f) ≡ length (rows n g)
+unfolding rows
+rows_lengths zero f g h = refl
+rows_lengths (suc n) f g h =
+    omega (arith, length-append (rows n f) (f n), length-append (rows n g) (g n), rows_lengths n f g (λ i l. h i (omega arith)), h n (omega arith))
+
 module _ (f : ℕ → List ℕ) where
   pub length_rows : (n : ℕ) → ((i : ℕ) → i < n → length (f i) ≡ 32) → length (rows n f) ≡ 32 * n
   unfolding rows

@@ -1,5 +1,10 @@
 -- Byte strings as RFC 8554 writes them: lists of numbers below 256, with `++` for its ‖.
-use Rattle.std.specs.Prelude.{ℕ, zero, suc, ◌+◌, ◌*◌, ◌/◌, ◌%◌, List, [], ◌∷◌, ◌++◌, take, drop, bit_xor, slice_index}
+use Rattle.std.specs.Prelude.{ℕ, zero, suc, ◌+◌, ◌*◌, ◌/◌, ◌%◌, ◌<◌, List, [], ◌∷◌, ◌++◌, take, drop, bit_xor, slice_index}
+
+-- each number of the list is a byte
+abbrev pub Bytes : List ℕ → Type 0
+Bytes [] = Unit {0}
+Bytes (x ∷ xs) = (x < 256) × Bytes xs
 
 -- ---- 3.1.1: numbers as bytes, the top byte first, and back
 abbrev pub u8str : ℕ → List ℕ
@@ -12,7 +17,8 @@ abbrev pub u32str : ℕ → List ℕ
 u32str x = (x / 16777216 % 256) ∷ (x / 65536 % 256) ∷ (x / 256 % 256) ∷ (x % 256) ∷ []
 
 abbrev pub str_to_u32 : List ℕ → ℕ
-str_to_u32 s = slice_index s 0 * 16777216 + slice_index s 1 * 65536 + slice_index s 2 * 256 + slice_index s 3
+str_to_u32 s =
+    slice_index s 0 * 16777216 + slice_index s 1 * 65536 + slice_index s 2 * 256 + slice_index s 3
 
 -- n bytes from the place `at` on
 abbrev pub part : ℕ → ℕ → List ℕ → List ℕ

@@ -1,4 +1,4 @@
-// Rows of 32 bytes, and the two strings that a tree is made of.
+//! Rows of 32 bytes, and the two strings that a tree is made of.
 #![tactic(auto)]
 
 mod bytes;
@@ -9,4 +9,4 @@ mod sums;
 pub use bytes::{Row, put, put_row, row_at};
 pub use fixed::{Fixed, Identifier, Seed};
 pub use origin::Origin;
-pub use sums::{add_row, sum};
+pub use sums::{UnequalLengths, add, add_row, sum};

@@ -1,6 +1,6 @@
 -- The laws that an implementation of a hash owes, of SHA-256.
 use Rattle.std.proofs.Common.{◌≡◌, ℕ, ◌^◌, ◌<◌, ◌≤◌, List, [], ◌++◌, length, refl, arith, rules}
-use Rattle.hash.specs.Bytes.{Bytes}
+use Rattle.rows.specs.Bytes.{Bytes}
 use Rattle.sha256.specs.Fips180.{sha256}
 use Rattle.sha256.specs.State.{State, first, fed, closed}
 use Rattle.sha256.specs.Feeding.{fed_none, fed_joined}
@@ -15,13 +15,13 @@ joined_law s a b = fed_joined s a b
 pub whole_law : (m : List ℕ) → sha256 m ≡ closed (fed first m)
 whole_law m = Whole.whole m
 
-pub long_law : (m : List ℕ) → length (sha256 m) ≡ 32
-unfolding sha256
-long_law m = refl
+pub closed_long_law : (s : State) → length (closed s) ≡ 32
+unfolding closed
+closed_long_law s = refl
 
-pub bytes_law : (m : List ℕ) → Bytes (sha256 m)
-unfolding sha256
-bytes_law m = search rules
+pub closed_bytes_law : (s : State) → Bytes (closed s)
+unfolding closed
+closed_bytes_law s = search rules
 
 pub wide_law : 32 ≤ 64
 wide_law = omega arith

@@ -2,7 +2,7 @@
 ghost use Rattle.std.specs.Prelude.{◌≡◌, ◌%◌};
 ghost use Rattle.sha256.specs.Fips180.{sha256 as standard};
 ghost use Rattle.sha256.specs.State.{State, first, fed, closed};
-ghost use Rattle.sha256.specs.Laws.{none_law, joined_law, whole_law, long_law, bytes_law, wide_law, ots_law, tree_law};
+ghost use Rattle.sha256.specs.Laws.{none_law, joined_law, whole_law, closed_long_law, closed_bytes_law, wide_law, ots_law, tree_law};
 
 use crate::eight::end_eight;
 use crate::padding::{all_with_length, with_length};
@@ -53,9 +53,9 @@ impl Hash for Hasher {
 
     ghost whole = { whole_law };
 
-    ghost long = { long_law };
+    ghost closed_long = { closed_long_law };
 
-    ghost bytes = { bytes_law };
+    ghost closed_bytes = { closed_bytes_law };
 
     ghost wide = { wide_law };
 

@@ -1,6 +1,6 @@
 -- The laws that an implementation of a hash owes, of SHAKE256.
 use Rattle.std.proofs.Common.{◌≡◌, ℕ, ◌^◌, ◌<◌, ◌≤◌, List, [], ◌++◌, length, refl, arith, rules}
-use Rattle.hash.specs.Bytes.{Bytes}
+use Rattle.rows.specs.Bytes.{Bytes}
 use Rattle.hash.specs.Chaining.{Chain}
 use Rattle.hash.proofs.Chaining.{chained_none, chained_joined}
 use Rattle.shake256.specs.Fips202.{absorbed, shake256}
@@ -16,13 +16,13 @@ joined_law s a b = chained_joined 136 absorbed s a b
 pub whole_law : (m : List ℕ) → shake256 m ≡ closed (fed first m)
 whole_law m = Whole.whole m
 
-pub long_law : (m : List ℕ) → length (shake256 m) ≡ 32
-unfolding shake256
-long_law m = refl
+pub closed_long_law : (s : Chain) → length (closed s) ≡ 32
+unfolding closed
+closed_long_law s = refl
 
-pub bytes_law : (m : List ℕ) → Bytes (shake256 m)
-unfolding shake256
-bytes_law m = search rules
+pub closed_bytes_law : (s : Chain) → Bytes (closed s)
+unfolding closed
+closed_bytes_law s = search rules
 
 pub wide_law : 32 ≤ 136
 wide_law = omega arith

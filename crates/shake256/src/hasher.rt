@@ -3,7 +3,7 @@ ghost use Rattle.hash.specs.Chaining.{Chain};
 ghost use Rattle.shake256.specs.Fips202.{shake256 as standard};
 ghost use Rattle.shake256.specs.State.{first, fed, closed};
 ghost use Rattle.shake256.specs.View.{viewed};
-ghost use Rattle.shake256.specs.Laws.{none_law, joined_law, whole_law, long_law, bytes_law, wide_law, ots_law, tree_law};
+ghost use Rattle.shake256.specs.Laws.{none_law, joined_law, whole_law, closed_long_law, closed_bytes_law, wide_law, ots_law, tree_law};
 
 use crate::padding::add_last_bit;
 use crate::pairs::end_eight;
@@ -45,9 +45,9 @@ impl Hash for Hasher {
 
     ghost whole = { whole_law };
 
-    ghost long = { long_law };
+    ghost closed_long = { closed_long_law };
 
-    ghost bytes = { bytes_law };
+    ghost closed_bytes = { closed_bytes_law };
 
     ghost wide = { wide_law };
 

@@ -5,21 +5,26 @@ ghost use Rattle.sizes.specs.Sizes.{levels, is_height};
 use std::error::Error;
 use std::fmt;
 
+/// How many levels of nodes stand above the leaves of a tree: 5 or 10 (RFC 8554, section 5.1).
 #[derive(Clone, Copy, PartialEq, Eq, Debug)]
 pub enum Height {
+    /// 32 one-time keys.
     Five = 5,
+    /// 1,024 one-time keys.
     Ten = 10,
 }
 
-// A number that is no height.
+/// A number that is no height.
 #[derive(Clone, Copy, PartialEq, Eq, Debug)]
 pub struct UnknownHeight(pub u32);
 
-// The height of some levels, where there is one.
+/// The height of some levels, where there is one.
 impl TryFrom<u32> for Height {
     type Error = UnknownHeight;
 
-    ghost try_from_gives = { λ number r. MatchResult r (λ h. (is_height number ≡ true) × (levels h ≡ number)) (λ e. (is_height number ≡ false) × (e.0 ≡ number)) };
+    ghost try_from_gives = { λ number r. MatchResult r
+        (λ h. (is_height number ≡ true) × (levels h ≡ number))
+        (λ e. (is_height number ≡ false) × (e.0 ≡ number)) };
 
     fn try_from(number: u32) -> Result<Height, UnknownHeight> {
         match number {
@@ -41,14 +46,14 @@ impl fmt::Display for UnknownHeight {
 impl Error for UnknownHeight {}
 
 impl Height {
-    // How many levels of nodes stand above the leaves.
+    /// How many levels of nodes stand above the leaves.
     pub fn levels(self) -> usize
         ensures { result ≡ levels self }
     {
         self as usize
     }
 
-    // How many leaves, and so one-time keys, the tree has.
+    /// How many leaves, and so one-time keys, the tree has.
     pub fn keys(self) -> u32
         ensures { result ≡ 2 ^ levels self }
     {

@@ -1,25 +1,22 @@
 -- What the checks let pass.
-use Rattle.std.proofs.Common.{◌≡◌, ℕ, zero, suc, ◌*◌, ◌<◌, Bool, true, false, not, eqb, List, [], ◌∷◌, length, get_or, replicate, Some, None, Option, sym, refl, ap, ◌∙◌, ⊎_elim, arith}
+use Rattle.std.proofs.Common.{◌≡◌, ℕ, zero, suc, ◌*◌, ◌<◌, true, false, not, eqb, List, [], ◌∷◌, length, get_or, replicate, Some, None, Option, sym, refl, ap, ◌∙◌, ⊎_elim, arith}
 use Rattle.std.proofs.lemmas.Bool.{and_parts, and_from, cases_Bool, cond-true, eqb-true, eq-eqb, not-true, not_from_false, true≢false}
 use Rattle.std.proofs.lemmas.List.Folds.{list_any_at, list_any_none}
 use Rattle.std.proofs.lemmas.List.{get_or_default}
 use Rattle.std.proofs.lemmas.List.Sums.{AllPass-from_list_all, list_all-from_AllPass}
-use Rattle.std.proofs.lemmas.Option.{none-some}
 use Rattle.std.proofs.lemmas.Slice.Eq.{bytes_eq-Decides}
+use Rattle.checks.specs.Checks.{first_refusal}
+use Rattle.checks.proofs.Ordered.{passed}
 use Rattle.plan.specs.Shape.{Shape}
 use Rattle.plan.specs.Keys.{owner}
 use Rattle.layout.specs.Table.{rows_of_group}
 use Rattle.pads.specs.Source.{Source}
-use Rattle.splitting.specs.declared.refusal.Refusal.TheVariants.{Sources, SameChecks, Undealt, Buffer, NotHeld}
+use Rattle.splitting.specs.declared.refusal.Refusal.TheVariants.{Sources, SameChecks, Buffer, NotHeld}
 use Rattle.splitting.specs.Sources.{no_source, clash, clashes_any, distinct, source_of, all_hold}
-use Rattle.splitting.specs.Split.{unless, members_of, of_owner, part_long, refusal}
+use Rattle.splitting.specs.Split.{members_of, split_checks, part_long, refusal}
 use Rattle.splitting.specs.Laws.{Fit}
 
 -- ---- one check after the other
-passed : {R : Type 0} (b : Bool) (r : R) (next : Option R) → unless b r next ≡ None → (b ≡ true) × (next ≡ None)
-passed true r next e = (refl, e)
-passed false r next e = absurd (none-some r (sym e))
-
 pub record Passed (p : Shape) (sources : List Source) (key n : ℕ) : Type 0 where
   pub number : eqb (length sources) p.trustees ≡ true
   pub apart : distinct sources ≡ true
@@ -29,16 +26,13 @@ pub record Passed (p : Shape) (sources : List Source) (key n : ℕ) : Type 0 whe
   pub held : all_hold sources (members_of p g) key ≡ true
 
 pub all_passed : (p : Shape) (sources : List Source) (key n : ℕ) → refusal p sources key n ≡ None → Passed p sources key n
-all_passed p sources key n e =
-    let one = passed (eqb (length sources) p.trustees) Sources _ e in
-    let two = passed (distinct sources) SameChecks (of_owner p sources key (part_long p n) (owner p key)) one.1 in
-    from one.0 two.0 (owner p key) refl two.1
+all_passed p sources key n e = from (owner p key) refl e
   where
-    from : eqb (length sources) p.trustees ≡ true → distinct sources ≡ true → (o : Option ℕ) → owner p key ≡ o → of_owner p sources key (part_long p n) o ≡ None → Passed p sources key n
-    from number apart None same h = absurd (none-some Undealt (sym h))
-    from number apart (Some g) same h =
-        let three = passed (eqb n (32 * rows_of_group p g)) Buffer _ h in
-        record { number = number; apart = apart; g = g; owns = same; long = eqb-true _ _ three.0; held = (passed (all_hold sources (members_of p g) key) NotHeld None three.1).0 }
+    from : (o : Option ℕ) → owner p key ≡ o → first_refusal (split_checks p sources key (part_long p n) o) ≡ None → Passed p sources key n
+    from None same h = absurd (true≢false (sym (passed (split_checks p sources key (part_long p n) None) h 2 _ refl)))
+    from (Some g) same h =
+        let pass = passed (split_checks p sources key (part_long p n) (Some g)) h in
+        record { number = pass 0 _ refl; apart = pass 1 _ refl; g = g; owns = same; long = eqb-true _ _ (pass 3 _ refl); held = pass 4 _ refl }
 
 -- ---- sources that are told apart
 abbrev zeros : List ℕ
@@ -101,8 +95,8 @@ fits p sources key n e =
 pub no_refusal : (p : Shape) (sources : List Source) (key n : ℕ) → Fit p sources key n → refusal p sources key n ≡ None
 no_refusal p sources key n f =
     let held = list_all-from_AllPass (λ t. (source_of sources t).held key) (members_of p f.g) (λ i d l. ap (λ t. (source_of sources t).held key) (get_or_default (members_of p f.g) i d 0 l) ∙ f.held i l) in
-    cond-true (eqb (length sources) p.trustees) _ (Some Sources) (eq-eqb (length sources) p.trustees f.all)
+    ap (λ o. first_refusal (split_checks p sources key (part_long p n) o)) f.owns
+    ∙ cond-true (eqb (length sources) p.trustees) _ (Some Sources) (eq-eqb (length sources) p.trustees f.all)
     ∙ cond-true (distinct sources) _ (Some SameChecks) (distinct_from sources f.apart)
-    ∙ ap (of_owner p sources key (part_long p n)) f.owns
     ∙ cond-true (eqb n (32 * rows_of_group p f.g)) _ (Some Buffer) (eq-eqb n (32 * rows_of_group p f.g) f.long)
     ∙ cond-true (all_hold sources (members_of p f.g) key) None (Some NotHeld) held

@@ -3,3 +3,4 @@ pub mod Listed
 pub mod Fitting
 pub mod Undone
 pub mod Granted
+pub mod PadsHide

@@ -10,34 +10,33 @@ use Rattle.layout.specs.Table.{rows_of_group}
 use Rattle.pads.specs.declared.label.Label.{Label}
 use Rattle.pads.specs.Source.{Source}
 use Rattle.splitting.specs.declared.refusal.Refusal.{Refusal}
-use Rattle.pads.specs.Labelled.{label_at}
-use Rattle.splitting.specs.Sources.{source_of, padded}
-use Rattle.splitting.specs.Split.{members_of, refusal, split_rows, split_for, answer, split}
+use Rattle.splitting.specs.Sources.{pad_of, padded}
+use Rattle.splitting.specs.Split.{members_of, part_label, refusal, split_rows, split_for, answer, split}
 use Rattle.splitting.specs.Laws.{Splitting}
 use Rattle.splitting.proofs.Listed.{length_padded}
-use Rattle.pads.proofs.Booked.{labelling}
+use Rattle.pads.proofs.Rising.{labelling}
 use Rattle.splitting.proofs.Fitting.{all_passed, fits, no_refusal}
 
 -- ---- pads
 module _ (sources : List Source) (l : Label) where
   later : (ts : List ℕ) (row x : List ℕ) → xored (padded sources ts l row) x ≡ padded sources ts l (xored row x)
   later [] row x = refl
-  later (t ∷ ts) row x = later ts (xored row ((source_of sources t).pad l)) x ∙ ap (padded sources ts l) (sums.order row ((source_of sources t).pad l) x)
+  later (t ∷ ts) row x = later ts (xored row (pad_of sources t l)) x ∙ ap (padded sources ts l) (sums.order row (pad_of sources t l) x)
 
   off : (ts : List ℕ) (row : List ℕ) → padded sources ts l (padded sources ts l row) ≡ row
   off [] row = refl
   off (t ∷ ts) row =
-      let x = (source_of sources t).pad l in
+      let x = pad_of sources t l in
       ap (padded sources ts l) (later ts (xored row x) x) ∙ off ts (xored (xored row x) x) ∙ sums.back row x
 
   anywhere : (ss us : List ℕ) (t : ℕ) (row : List ℕ) → padded sources (ss ++ t ∷ us) l row ≡ padded sources (t ∷ ss ++ us) l row
   anywhere [] us t row = refl
   anywhere (s ∷ ss) us t row =
-      anywhere ss us t (xored row ((source_of sources s).pad l)) ∙ ap (padded sources (ss ++ us) l) (sums.order row ((source_of sources s).pad l) ((source_of sources t).pad l))
+      anywhere ss us t (xored row (pad_of sources s l)) ∙ ap (padded sources (ss ++ us) l) (sums.order row (pad_of sources s l) (pad_of sources t l))
 
-  each : (ss us : List ℕ) (t : ℕ) (row : List ℕ) → xored (padded sources (ss ++ t ∷ us) l row) ((source_of sources t).pad l) ≡ padded sources (ss ++ us) l row
+  each : (ss us : List ℕ) (t : ℕ) (row : List ℕ) → xored (padded sources (ss ++ t ∷ us) l row) (pad_of sources t l) ≡ padded sources (ss ++ us) l row
   each ss us t row =
-      let x = (source_of sources t).pad l in
+      let x = pad_of sources t l in
       ap (λ r. xored r x) (anywhere ss us t row) ∙ later (ss ++ us) (xored row x) x ∙ ap (padded sources (ss ++ us) l) (sums.back row x)
 
 -- ---- refused or accepted
@@ -56,7 +55,7 @@ answered {X = X} None x y e = (refl, given x y e)
 answered (Some r) x y e = let z : ◌≡◌ {A = ℕ} 0 1 = cc in absurd (omega arith)
 
 module _ (p : Shape) (sources : List Source) (key : ℕ) (sheet part : List ℕ) (e : split p sources key sheet ≡ Ok part) where
-  fine : refusal p sources key (length sheet) ≡ None
+  pub fine : refusal p sources key (length sheet) ≡ None
   fine = (answered (refusal p sources key (length sheet)) (split_for p sources key sheet (owner p key)) part e).0
 
   module _ (g : ℕ) (o : owner p key ≡ Some g) where
@@ -64,12 +63,12 @@ module _ (p : Shape) (sources : List Source) (key : ℕ) (sheet part : List ℕ)
     R = rows_of_group p g
 
     abbrev label : ℕ → Label
-    label = label_at (length (members_of p g)) p.height p.width key
+    label = part_label p g key
 
     abbrev row : ℕ → List ℕ
     row n = padded sources (members_of p g) (label n) (row_at n sheet)
 
-    long : length sheet ≡ 32 * R
+    pub long : length sheet ≡ 32 * R
     long =
         let all = all_passed p sources key (length sheet) fine in
         let same : all.g ≡ g = same_Some all.g g (sym all.owns ∙ o) in
@@ -95,6 +94,9 @@ module _ (p : Shape) (sources : List Source) (key : ℕ) (sheet part : List ℕ)
         accepted p sources key g part (ap (refusal p sources key) (split_long ∙ sym long) ∙ fine) o
         ∙ ap (λ x. Ok x) (rows_same R (λ n. padded sources (members_of p g) (label n) (row_at n part)) (λ n. row_at n sheet) row_back ∙ sym (rows_whole sheet R (λ n. row_at n sheet) long (λ n l. refl)))
 
+  stays_long : length part ≡ length sheet
+  stays_long = let all = all_passed p sources key (length sheet) fine in split_long all.g all.owns ∙ sym (long all.g all.owns)
+
   twice : split p sources key part ≡ Ok sheet
   twice = let all = all_passed p sources key (length sheet) fine in again all.g all.owns
 
@@ -104,6 +106,7 @@ splitting = record {
   splits = λ p sources key sheet f.
       let none = no_refusal p sources key (length sheet) f in
       (split_rows p sources f.g key sheet, accepted p sources key f.g sheet none f.owns);
+  long = stays_long;
   twice = twice;
   none = λ sources l row. refl;
   each = λ sources ss us t l row. each sources l ss us t row;

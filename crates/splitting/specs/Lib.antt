@@ -3,3 +3,4 @@ pub mod Sources
 pub mod Refusals
 pub mod Split
 pub mod Laws
+pub mod Hiding

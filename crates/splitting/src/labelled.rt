@@ -17,7 +17,8 @@ use std::array::from_fn;
 impl KeyPart {
     // The part of a key of a plan's group.
     pub(crate) fn of(plan: &Plan, group: &Group, key: u32) -> KeyPart
-        ensures { (n : ℕ) → label_in result n ≡ label_at (length (members group.now.mask)) (view plan.now).height (view plan.now).width key n }
+        ensures { (n : ℕ) → label_in result n ≡ label_at
+            (length (members group.now.mask)) (view plan.now).height (view plan.now).width key n }
     {
         KeyPart {
             height: plan.height(),
@@ -48,7 +49,8 @@ impl KeyPart {
     // The label of row n of the components.
     fn component(&self, n: usize) -> Label
         requires { n < 65536 }
-        ensures { result ≡ chain_label self.now.key (n / positions (bits self.now.width)) (n % positions (bits self.now.width)) }
+        ensures { let each = positions (bits self.now.width) in
+            result ≡ chain_label self.now.key (n / each) (n % each) }
     {
         let positions = scheme::positions(self.width);
         Label::chain(self.key, (n / positions) as u16, (n % positions) as u8)
@@ -57,7 +59,8 @@ impl KeyPart {
     // The labels of eight rows from row `first` on.
     pub(crate) fn labels(&self, first: usize) -> [Label; 8]
         requires { first < 65528 }
-        ensures { (l : ℕ) → l < 8 → slice_index_or result l nothing ≡ label_in self.now (first + l) }
+        ensures { (l : ℕ) → l < 8 →
+            slice_index_or result l nothing ≡ label_in self.now (first + l) }
     {
         from_fn(|l| self.label(first + l))
     }

@@ -1,23 +1,24 @@
-// Why a key is not split. An enum of this crate's own, with exactly the cases that its calls can give.
+// Why a key is not split: an enum of this crate's own, with exactly the cases that its calls give.
 ghost use Rattle.std.specs.Prelude.{◌≡◌};
 ghost use Rattle.splitting.specs.Refusals.{number_of};
 
+/// Why a key is not split; each case by its public number.
 #[derive(Clone, Copy, PartialEq, Eq, Debug)]
 pub enum Refusal {
-    // There are not as many sources as trustees.
+    /// There are not as many sources as trustees.
     Sources = 8,
-    // Two sources have the same check pad for key 0 and a zero prefix.
+    /// Two sources hold key 0 and have the same check pad for it and a zero prefix.
     SameChecks = 6,
-    // No group owns the key.
+    /// No group owns the key.
     Undealt = 9,
-    // A buffer has not its exact length.
+    /// A buffer has not its exact length.
     Buffer = 20,
-    // The source of a member does not hold the key.
+    /// The source of a member of the key's group does not hold the key.
     NotHeld = 7,
 }
 
 impl Refusal {
-    // The public number.
+    /// The public number.
     pub fn number(&self) -> usize
         ensures { result ≡ number_of self.now }
     {

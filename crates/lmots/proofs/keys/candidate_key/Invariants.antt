@@ -10,4 +10,4 @@ invariant-loop-i g l =
     ≡ g.H.Hash.fed g.H.Hash.first
     (l.id.bytes ++ u32str l.q ++ u16str 0x8080
     ++ rows l.i
-    (λ i. chain g.H.Hash.hashed l.id.bytes l.q i (digit (bits l.width) l.digest i) (2 ^ bits l.width - 1 - digit (bits l.width) l.digest i) (row_at i l.rows)))
+    (λ i. chain g.H.Hash.hashed l.id.bytes l.q i (digit (bits l.fn.width) l.digest i) (2 ^ bits l.fn.width - 1 - digit (bits l.fn.width) l.digest i) (row_at i l.rows)))

@@ -6,4 +6,4 @@ use Rattle.lmots.proofs.selected.write_selected.Given as goal
 
 abbrev pub invariant-loop-i : goal.invariant-loop-i
 invariant-loop-i g l =
-    (k : ℕ) → k < l.i → row_at k l.out ≡ X g.H.Hash.hashed l.origin.id.bytes l.origin.seed.bytes l.q k (digit (bits l.width) l.digest k)
+    (k : ℕ) → k < l.i → row_at k l.out ≡ X g.H.Hash.hashed l.origin.id.bytes l.origin.seed.bytes l.q k (digit (bits l.fn.width) l.digest k)

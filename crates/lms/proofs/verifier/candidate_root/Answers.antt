@@ -25,7 +25,7 @@ returns g c =
     let Q : c.digest_of-digest.result ≡ digest H I a.q (part 8 32 s) a.message.now = c.digest_of-digest.ensures.value ∙ ap (λ t. digest H I a.q t a.message.now) C in
     let r : c.keys.result + a.q ≡ 2 ^ h + a.q = ap (λ k. k + a.q) c.keys.ensures in
     let key : c.unwrap-key.result ≡ candidate_key H I w a.q (digest H I a.q (part 8 32 s) a.message.now) (λ i. row_at i (part 40 n s)) =
-    (rw c.unwrap-key.ensures at c.candidate_key.ensures).1 ∙ (λ j. candidate_key H I w a.q (Q j) (λ i. row_at i (part 40 (m j) s))) in
+    (rw c.unwrap-key.ensures at c.candidate_key.ensures).value ∙ (λ j. candidate_key H I w a.q (Q j) (λ i. row_at i (part 40 (m j) s))) in
     let t = part (end + 4) (length s - (end + 4)) s in
     let lt : length t ≡ 32 * h = length_part s (end + 4) (length s - (end + 4)) (omega arith) ∙ l in
     let lc : length c.as_chunks.result.0.now ≡ h = c.as_chunks.ensures.front_len ∙ omega arith in

@@ -7,4 +7,4 @@ pub returns : goal.returns
 unfolding group_row
 returns c =
     made _ c.writeln.result _ _ c.writeln.ensures.bytes
-    (simp (c.laid_out.ensures, c.laid_out-2.ensures, c.laid_out-3.ensures, c.laid_out-4.ensures, six, c.size-members.ensures, append_assoc, append-nil))
+    (simp (c.laid_out.ensures, c.laid_out-2.ensures, c.laid_out-3.ensures, c.laid_out-4.ensures, six, c.size-members.ensures.value, append_assoc, append-nil))

@@ -1,4 +1,4 @@
-use Rattle.std.proofs.Common.{◌≡◌, ℕ, ◌+◌, ◌-◌, ◌*◌, ◌++◌, map, length, ap, ◌∙◌, arith, rules}
+use Rattle.std.proofs.Common.{List, slice_index, ◌≡◌, ℕ, ◌+◌, ◌-◌, ◌*◌, ◌++◌, map, length, ap, ◌∙◌, arith, rules}
 use borrow.Rule.Slice.PartMut.{put_mid}
 use Rattle.std.proofs.lemmas.Slice.{take-put_mid}
 use Rattle.rows.specs.Bytes.{rows}
@@ -8,15 +8,13 @@ use Rattle.plan.specs.Members.{members}
 use Rattle.lms.specs.Grown.{tall, grown_path}
 use Rattle.lms.specs.Scheme.{components, positions, prefix, path_row, all_components}
 use Rattle.lms.proofs.Joints.{put_behind}
-use Rattle.dealer.specs.Sheet.{check_rows}
-use Rattle.dealer.specs.Dealt.{i_of, seed_of}
+use Rattle.splitting.specs.Sources.{source_of}
+use Rattle.dealer.specs.Dealt.{identifier_of, seed_of}
 use Rattle.dealer.proofs.Laying.{four_parts, done}
 use Rattle.dealer.proofs.dealers.Dealer.write_sheet.Goals as goal
 
--- the path's rows fit
--- and so do those of the components
-pub returns-clause-written : goal.returns-clause-written
-returns-clause-written g c =
+pub returns : goal.returns
+returns g c =
     let d = c.args.self.now in
     let key = c.args.key in
     let out = c.args.out.now in
@@ -42,15 +40,15 @@ returns-clause-written g c =
     let lz : length z ≡ b - a = search rules in
     let l₃ : length o₃ ≡ length out = search rules in
     let l₄ : length o₄ ≡ length out = search rules in
-    let lev : c.levels.result ≡ h = c.levels.ensures ∙ ap levels c.height-height.ensures in
-    let whole : length out ≡ b + 32 * (components w * positions w) = c.requires.room ∙ omega (arith, lev, c.size.ensures) in
+    let lev : c.levels.result ≡ h = c.levels.ensures ∙ c.height-height.ensures in
+    let whole : length out ≡ b + 32 * (components w * positions w) = c.requires.room ∙ omega (arith, lev, c.size.ensures.value) in
     let path : z ≡ rows (tall d.tree) (grown_path H d.tree key) = done c.write_path.result _ _ _ c.unwrap.ensures c.write_path.ensures.written in
     let rest : x ≡ all_components H c.origin-origin.result.id.bytes c.origin-origin.result.seed.bytes (bits c.width-width.result) key = done c.write_components.result _ _ _ c.unwrap-2.ensures c.write_components.ensures.written in
-    let own : C ≡ prefix H (i_of d) (seed_of d) key = c.prefix-prefix.ensures ∙ ap (λ (o : Origin). prefix H o.id.bytes o.seed.bytes key) c.origin-origin.ensures in
+    let own : C ≡ prefix H (identifier_of d) (seed_of d) key = c.prefix-prefix.ensures ∙ ap (λ (o : Origin). prefix H o.id.bytes o.seed.bytes key) c.origin-origin.ensures in
     four_parts 32 a b (length out) o₁ o₂ o₃ o₄ C y z x l₄
     (put_behind out o₁ C 0 32 c.put.ensures.inside (omega (arith, whole)) (omega (arith, lC)))
     (take-put_mid 32 (a - 32) o₁ y a (omega (arith, l₁, whole)) (omega arith))
     (take-put_mid a (b - a) o₂ z b (omega (arith, l₂, whole)) (omega arith))
     (take-put_mid b (length o₃ - b) o₃ x (length out) (omega (arith, l₃, whole)) (omega (arith, l₃, whole)))
-    ∙ (λ i. own i ++ (c.write_checks.ensures.written ∙ ap (check_rows sources ts key) own) i ++ (path ∙ (λ j. rows (levels (d.tall j)) (path_row H (i_of d) (seed_of d) (levels (d.tall j)) (bits (d.wide j)) key))) i
-    ++ (rest ∙ (λ j. all_components H (c.origin-origin.ensures j).id.bytes (c.origin-origin.ensures j).seed.bytes (bits (c.width-width.ensures j)) key)) i)
+    ∙ (λ i. own i ++ (c.write_checks.ensures ∙ ap (λ (p : List ℕ). rows (length ts) (λ n. (source_of sources (slice_index ts n)).check key p)) own) i ++ (path ∙ (λ j. rows (levels (d.tall j)) (path_row H (identifier_of d) (seed_of d) (levels (d.tall j)) (bits (d.wide j)) key))) i
+    ++ (rest ∙ (λ j. all_components H (c.origin-origin.ensures j).id.bytes (c.origin-origin.ensures j).seed.bytes (c.width-width.ensures j) key)) i)

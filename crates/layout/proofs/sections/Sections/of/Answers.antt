@@ -21,7 +21,9 @@ far plan n start rows g at er turn =
     omega (arith, reached, start_within plan (n + 1) (omega (arith, turn.0)))
 
 pub loop-group-init : goal.loop-group-init
-loop-group-init c = laid_none (view c.args.plan.now) c.default-all.result c.default-all.ensures.1.0
+loop-group-init c =
+    let none = c.default-all.ensures in
+    laid_none (view c.args.plan.now) c.default-all.result (λ i. record { first = none.0 i; count = none.1.0 i; rows = none.1.1.0 i; start = none.1.1.1 i })
 
 pub offset_bounds-all-group : goal.offset_bounds-all-group
 offset_bounds-all-group c =

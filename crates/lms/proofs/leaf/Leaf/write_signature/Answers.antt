@@ -1,19 +1,13 @@
-use Rattle.std.proofs.Common.{◌≡◌, ℕ, ◌+◌, ◌-◌, ◌*◌, ◌++◌, length, Ok, Err, Result, sym, ap, ◌∙◌, arith, rules, MatchResult}
+use Rattle.std.proofs.Common.{◌≡◌, ℕ, ◌+◌, ◌-◌, ◌*◌, ◌++◌, length, sym, ap, ◌∙◌, arith, rules}
 use borrow.Rule.Slice.PartMut.{put_mid}
 use Rattle.std.proofs.lemmas.Slice.{take-put_mid}
-use Rattle.rows.specs.Bytes.{u32str, part, rows}
-use Rattle.rows.proofs.Rows.{length_part}
+use Rattle.rows.specs.Bytes.{u32str, rows}
 use Rattle.lmots.specs.LmOts.{X, digest, digit, p, prefix}
 use Rattle.sizes.specs.Sizes.{levels, bits}
 use Rattle.lms.specs.Grown.{grown_path, grown_signature, tall, wide}
 use Rattle.lms.specs.Lms.{ots_code, path_of, signature_length, signature_with}
 use Rattle.lms.proofs.Joints.{written_rest, put_behind}
 use Rattle.lms.proofs.leaf.Leaf.write_signature.Goals as goal
-
--- a call whose refusal is ruled out
-only_ok : {X E : Type 0} (r : Result X E) (P : Type 0) (Q : E → Type 0) → MatchResult r (λ _. P) Q → ((e : E) → Q e → ⊥) → P
-only_ok (Ok x) P Q h n = h
-only_ok (Err e) P Q h n = absurd (n e h)
 
 pub returns : goal.returns
 unfolding signature_with
@@ -46,9 +40,7 @@ returns g c =
     let l₅ : length o₅ ≡ length a.out.now = search rules in
     let lz : length z ≡ 32 * h = search rules in
     let l₆ : length o₆ ≡ length a.out.now = search rules in
-    let o : 40 + n - 40 ≡ 32 * p w = omega (arith, c.chain_count.ensures.value) in
-    let lp : length (part 40 (40 + n - 40) o₃) ≡ 32 * p w = length_part o₃ 40 (40 + n - 40) (omega (arith, c.chain_count.ensures.value)) ∙ o in
-    let ey : y ≡ Y = (only_ok c.write_selected.result _ _ c.write_selected.ensures (λ e f. f.0 lp)).1 in
+    let ey : y ≡ Y = (rw c.unwrap.ensures at c.write_selected.ensures).written in
     let Q = c.digest_of-digest.ensures.value ∙ ap (λ x. digest H I q x a.message.now) c.prefix_of-prefix.ensures in
     record {
       laid =

@@ -5,7 +5,8 @@ use Rattle.std.proofs.lemmas.Iterator.Adapters.{option_map_id}
 use Rattle.plan.specs.Groups.{groups, owns_key}
 use Rattle.plan.specs.View.{view}
 use Rattle.plan.proofs.Found.{plan_ranges}
-use Rattle.plan.proofs.Shares.{found_owner, ten_hold}
+use Rattle.plan.proofs.Membership.{plan_membership}
+use Rattle.plan.proofs.Owners.{found_owner, ten_hold}
 use Rattle.plan.proofs.plans.Plan.owner.Goals as goal
 
 pub returns-clause-value : goal.returns-clause-value
@@ -17,6 +18,9 @@ returns-clause-value c =
 
 pub returns-clause-ranges : goal.returns-clause-ranges
 returns-clause-ranges c = plan_ranges c.args.self.now
+
+pub returns-clause-members : goal.returns-clause-members
+returns-clause-members c = plan_membership c.args.self.now
 
 pub returns-clause-example : goal.returns-clause-example
 returns-clause-example c = ten_hold

@@ -1,13 +1,14 @@
 use Rattle.std.proofs.Common.{◌≡◌, ◌≤◌, Some, None, is_some, unwrap_or, sym, refl, ap, ◌∙◌, arith}
 use Rattle.std.proofs.lemmas.Result.{err_from_is_err_and}
 use Rattle.plan_sheet.specs.declared.refusal.Refusal.TheVariants.{Members}
-use Rattle.plan_sheet.specs.Checks.{entry_fault, worth, field_at}
+use Rattle.checks.specs.Checks.{first_refusal}
+use Rattle.plan_sheet.specs.Checks.{field_checks, worth, field_at}
 use Rattle.plan_sheet.proofs.Chosen.{ok_or_is}
 use Rattle.plan_sheet.proofs.Groups.{going_start, going_at, going_stop, going_next, going_all}
 use Rattle.plan_sheet.proofs.cursor.Cursor.group.Goals as goal
 
 pub loop-init : goal.loop-init
-loop-init c = (refl, refl, going_start _ _ _ _ _ _ _ c.requires.field c.new-tally.ensures.0 (ap (λ o. unwrap_or o 0) c.new-tally.ensures.1) (ap is_some c.new-tally.ensures.1), omega arith)
+loop-init c = (refl, refl, going_start _ _ _ _ _ _ c.requires.field c.new-tally.ensures.0 c.new-tally.ensures.1, omega arith)
 
 pub returns-in_err-trustee : goal.returns-in_err-trustee
 returns-in_err-trustee c =
@@ -19,7 +20,7 @@ returns-in_err-trustee c =
     let i0 = c.loop.invariant.0 in
     let i1 = c.loop.invariant.1 in
     let n = c.requires.trustees.1 in
-    let b : entry_fault s l f ≡ Some c.in_err-trustee.field-0.0 = cc in
+    let b : first_refusal (field_checks s l f) ≡ Some c.in_err-trustee.field-0.0 = cc in
     let le : f ≤ 8 = omega arith in
     let e = going_stop s l c.args.trustees f c.loop.tally.floor (unwrap_or c.loop.tally.mask 0) (is_some c.loop.tally.mask) c.loop.invariant.2 le c.in_err-trustee.field-0.0 b in
     record { value = rw (p.1, p.2) e; moved = (c.next.ensures.moved.0 ∙ i0, c.next.ensures.moved.1 ∙ i1) }
@@ -35,7 +36,7 @@ loop-preserved c =
     let i0 = c.loop.invariant.0 in
     let i1 = c.loop.invariant.1 in
     let n = c.requires.trustees.1 in
-    let b : entry_fault s l f ≡ None = cc in
+    let b : first_refusal (field_checks s l f) ≡ None = cc in
     let le : f ≤ 8 = omega arith in
     let t = unwrap_or c.in_ok-trustee.trustee 0 in
     let te : t ≡ worth (field_at 3 s l f) = cc in
