@@ -50,14 +50,11 @@ pub(crate) fn sign<H: Hash>(
     Ok(signature)
 }
 
-// The whole public table, dealt key by key.
+// The whole public table.
 pub(crate) fn deal_table<H: Hash>(setting: &Setting) -> anyhow::Result<Vec<u8>> {
-    let plan = &setting.plan;
     let dealer = dealer_of::<H>(setting)?;
     let sources = hmac_sources::<H>(setting.heap, &setting.pad_keys)?;
-    let mut table = vec![in setting.heap; 0u8; 32 * table_rows(plan)]?;
-    for key in (0..plan.height().keys()).filter(|key| plan.owner(*key).is_some()) {
-        accepted(dealer.deal_part(&sources, key, &mut table))?;
-    }
+    let mut table = vec![in setting.heap; 0u8; 32 * table_rows(&setting.plan)]?;
+    accepted(dealer.deal_table(&sources, &mut table))?;
     Ok(table)
 }

@@ -8,7 +8,9 @@ mod setting;
 mod sources;
 mod splits;
 mod tables;
+mod waiting;
 
 pub use refusals::Refusals;
 pub use splits::Splits;
 pub use tables::Tables;
+pub use waiting::WAITING;

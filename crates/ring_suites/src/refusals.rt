@@ -1,4 +1,7 @@
 // Calls with one or more faults at once: which refusal answers, and what stands in the buffer afterwards.
+ghost use Rattle.std.specs.Prelude.{map};
+ghost use Rattle.ring_suites.specs.declared.refusals.TheConstants.{VALUES};
+
 use crate::setting::plan_of;
 use crate::sources::named_sources;
 use anyhow::anyhow;
@@ -8,8 +11,20 @@ use rows::{Identifier, Origin, Seed};
 use sha256::{Hasher, sha256};
 use splitting::split;
 use std::alloc::{AllocError, Global};
-use vector_files::{Block, Suite};
+use vector_files::{Block, Names, Suite};
 
+const VALUES: &[&str] = &[
+    "call",
+    "plan_sheet",
+    "pad_keys",
+    "key",
+    "message_length",
+    "out_bytes",
+    "answer",
+    "out_sha256",
+];
+
+/// The cases of `refusals.txt`: one a block.
 #[derive(Drop)]
 pub struct Refusals;
 
@@ -22,8 +37,8 @@ fn zero_dealer(heap: Global, plan: Plan) -> Result<Dealer<Hasher>, AllocError> {
     Dealer::new(heap, plan, origin)
 }
 
-// What the dealer's call that a block names answers; none where the block names a call of another's.
-fn call(block: &Block, out: &mut [u8]) -> anyhow::Result<Option<Result<(), Refusal>>> {
+// What the dealer's call that a block names answers.
+fn call(block: &Block, out: &mut [u8]) -> anyhow::Result<Result<(), Refusal>> {
     let plan = plan_of(block)?;
     let answer = match block.required("call")? {
         "sheet" => {
@@ -39,19 +54,26 @@ fn call(block: &Block, out: &mut [u8]) -> anyhow::Result<Option<Result<(), Refus
             let message = vec![in block.heap(); 0u8; length]?;
             zero_dealer(block.heap(), plan)?.sign(block.number("key")?, &message, out)
         }
-        "open" => return Ok(None),
         _ => return Err(anyhow!("a vector names an unknown call")),
     };
-    Ok(Some(answer))
+    Ok(answer)
 }
 
 impl Suite for Refusals {
+    ghost values = { map (λ name. name.now) VALUES.now };
+
+    fn names() -> Names {
+        Names {
+            values: VALUES,
+            cases: &[],
+        }
+    }
+
     fn check(&mut self, block: &Block) -> anyhow::Result<Option<bool>> {
         let mut out = vec![in block.heap(); 0u8; block.number("out_bytes")? as usize]?;
-        let Some(answer) = call(block, &mut out)? else {
-            return Ok(None);
-        };
-        let number = answer.err().map_or(0, |refusal| refusal.number());
+        let number = call(block, &mut out)?
+            .err()
+            .map_or(0, |refusal| refusal.number());
         let same = sha256(&out) == block.array::<32>("out_sha256")?;
         Ok(Some(same && number == block.number("answer")? as usize))
     }

@@ -1,13 +1,51 @@
 // One key of a dealt plan: a file is one setting, and each line that speaks of the root, the key sheet, the part or the signature is a case.
+ghost use Rattle.std.specs.Prelude.{map};
+ghost use Rattle.ring_suites.specs.declared.splits.TheConstants.{VALUES, CASES};
+
 use crate::deal::{Dealt, deal_key, sign};
 use crate::setting::{Setting, rows_of_key};
-use anyhow::Context;
+use anyhow::{Context, anyhow};
 use plan::Plan;
 use sha256::sha256;
 use std::alloc::{AllocError, Global};
-use vector_files::{Block, Suite, over_hash};
+use vector_files::{Block, Names, Suite, over_hash};
 
-// What the blocks so far have said.
+const VALUES: &[&str] = &[
+    "hash",
+    "plan_sheet",
+    "identifier",
+    "seed",
+    "pad_key_1",
+    "pad_key_2",
+    "pad_key_3",
+    "pad_key_4",
+    "pad_key_5",
+    "pad_key_6",
+    "pad_key_7",
+    "pad_key_8",
+    "key",
+    "message",
+    "message_fill",
+    "message_length",
+];
+
+const CASES: &[&str] = &[
+    "root",
+    "members",
+    "part_rows",
+    "sheet",
+    "sheet_sha256",
+    "sheet_first_rows",
+    "part",
+    "part_sha256",
+    "part_first_rows",
+    "part_last_row",
+    "prefix",
+    "check_rows",
+    "signature",
+];
+
+/// The cases of a `split-*.txt` file, by what its blocks so far have said.
 #[derive(Drop, Default)]
 pub struct Splits {
     setting: Option<Setting>,
@@ -20,17 +58,15 @@ fn cut(heap: Global, bytes: &[u8], from: usize, to: usize) -> Result<Vec<u8>, Al
     bytes.get(from..to).unwrap_or(&[]).to_vec(heap)
 }
 
-// The bytes that a line has to have, if it is one on the root, the key sheet or the part.
+// The bytes that a line on the root, the key sheet or the part has to have.
 fn bytes_of_line(
     heap: Global,
     plan: &Plan,
     key: u32,
     dealt: &Dealt,
     name: &str,
-) -> Result<Option<Vec<u8>>, AllocError> {
-    let Some(group) = plan.owner(key) else {
-        return Ok(None);
-    };
+) -> anyhow::Result<Vec<u8>> {
+    let group = plan.owner(key).context("no group owns a vector's key")?;
     let checks = group.size().saturating_add(1).saturating_mul(32);
     let path = plan.height().levels().saturating_mul(32);
     let front = checks.saturating_add(path).saturating_add(32);
@@ -46,9 +82,9 @@ fn bytes_of_line(
         "part_sha256" => sha256(&dealt.part).to_vec(heap)?,
         "part_first_rows" => cut(heap, &dealt.part, 0, front)?,
         "part_last_row" => cut(heap, &dealt.part, end.saturating_sub(32), end)?,
-        _ => return Ok(None),
+        _ => return Err(anyhow!("a line has no bytes to compare")),
     };
-    Ok(Some(bytes))
+    Ok(bytes)
 }
 
 // Whether the members of the group that owns a key are those listed.
@@ -94,6 +130,17 @@ impl Splits {
 }
 
 impl Suite for Splits {
+    ghost values = { map (λ name. name.now) VALUES.now };
+
+    ghost cases = { map (λ name. name.now) CASES.now };
+
+    fn names() -> Names {
+        Names {
+            values: VALUES,
+            cases: CASES,
+        }
+    }
+
     fn check(&mut self, block: &Block) -> anyhow::Result<Option<bool>> {
         if block.text("plan_sheet").is_some() {
             self.setting = Some(Setting::of(block)?);
@@ -107,27 +154,23 @@ impl Suite for Splits {
         Ok(None)
     }
 
-    fn check_line(&mut self, block: &Block, name: &str) -> anyhow::Result<Option<bool>> {
+    fn check_line(&mut self, block: &Block, name: &str) -> anyhow::Result<bool> {
         if name == "signature" {
-            return Ok(Some(self.signs(block)?));
+            return self.signs(block);
         }
         let setting = self
             .setting
             .as_ref()
             .context("a line stands before its plan")?;
-        let Some((key, dealt)) = &self.dealt else {
-            return Ok(None);
-        };
+        let (key, dealt) = self.dealt.as_ref().context("a line stands before its key")?;
         let plan = &setting.plan;
-        if name == "part_rows" {
-            return Ok(Some(rows_of_key(plan, *key) == block.number(name)? as usize));
-        }
-        if name == "members" {
-            return Ok(Some(members_are(plan, *key, &block.numbers(name)?)));
-        }
-        match bytes_of_line(block.heap(), plan, *key, dealt, name)? {
-            Some(bytes) => Ok(Some(bytes.as_slice() == block.bytes(name)?.as_slice())),
-            None => Ok(None),
-        }
+        Ok(match name {
+            "part_rows" => rows_of_key(plan, *key) == block.number(name)? as usize,
+            "members" => members_are(plan, *key, &block.numbers(name)?),
+            _ => {
+                let bytes = bytes_of_line(block.heap(), plan, *key, dealt, name)?;
+                bytes.as_slice() == block.bytes(name)?.as_slice()
+            }
+        })
     }
 }

@@ -1,13 +1,35 @@
 // Whole public tables: their sizes, their bytes by digest, and what a helper lends of them.
+ghost use Rattle.std.specs.Prelude.{map};
+ghost use Rattle.ring_suites.specs.declared.tables.TheConstants.{VALUES, CASES};
+
 use crate::deal::deal_table;
 use crate::lending::lends;
 use crate::setting::Setting;
+use anyhow::{Context, anyhow};
 use layout::{part_rows, table_rows};
 use plan::Plan;
 use rows::Row;
 use sha256::sha256;
-use vector_files::{Block, Suite, over_hash};
+use vector_files::{Block, Names, Suite, over_hash};
 
+const VALUES: &[&str] = &[
+    "hash",
+    "plan_sheet",
+    "identifier",
+    "seed",
+    "pad_key_1",
+    "pad_key_2",
+    "pad_key_3",
+    "pad_key_4",
+    "pad_key_5",
+    "pad_key_6",
+    "pad_key_7",
+    "pad_key_8",
+];
+
+const CASES: &[&str] = &["dealt_keys", "part_rows", "table_bytes", "table_sha256"];
+
+/// The cases of `tables.txt`: one a block, and one for each line on the table's size and bytes.
 #[derive(Drop, Default)]
 pub struct Tables {
     dealt: Option<Dealt>,
@@ -32,6 +54,17 @@ fn part_rows_are(plan: &Plan, listed: &[u32]) -> bool {
 }
 
 impl Suite for Tables {
+    ghost values = { map (λ name. name.now) VALUES.now };
+
+    ghost cases = { map (λ name. name.now) CASES.now };
+
+    fn names() -> Names {
+        Names {
+            values: VALUES,
+            cases: CASES,
+        }
+    }
+
     // The case of a block is what a helper lends.
     fn check(&mut self, block: &Block) -> anyhow::Result<Option<bool>> {
         let setting = Setting::of(block)?;
@@ -43,18 +76,18 @@ impl Suite for Tables {
         Ok(Some(lends(&table, &setting.plan)))
     }
 
-    fn check_line(&mut self, block: &Block, name: &str) -> anyhow::Result<Option<bool>> {
-        let Some(dealt) = &self.dealt else {
-            return Ok(None);
-        };
+    fn check_line(&mut self, block: &Block, name: &str) -> anyhow::Result<bool> {
+        let dealt = self
+            .dealt
+            .as_ref()
+            .context("a line stands before its plan")?;
         let plan = &dealt.plan;
-        let same = match name {
+        Ok(match name {
             "dealt_keys" => dealt_keys(plan) == block.number(name)?,
             "part_rows" => part_rows_are(plan, &block.numbers(name)?),
             "table_bytes" => 32 * table_rows(plan) == block.number(name)? as usize,
             "table_sha256" => dealt.digest == block.array::<32>(name)?,
-            _ => return Ok(None),
-        };
-        Ok(Some(same))
+            _ => return Err(anyhow!("a line of a table is no case")),
+        })
     }
 }

@@ -1,40 +1,51 @@
 -- What a line gives a block, and what a block says of a name.
-use Rattle.std.specs.Prelude.{◌≡◌, ⊤, ℕ, Bool, cond, List, [], ◌∷◌, length, replicate, codes, Some, Ok, Option, MatchOption, ◌==◌, nat_lt, slice_index}
-use Rattle.std.specs.List.{find, position_or_len, before_first, after_first}
-use Rattle.std.specs.Option.{option_map}
+use Rattle.std.specs.Prelude.{◌≡◌, ⊤, ℕ, Bool, List, [], ◌∷◌, length, map, replicate, codes, Some, Ok, Option, MatchOption, ◌==◌, ◌<◌, ◌≢◌, AllPairs, slice_index, slice_get}
+use Rattle.std.specs.List.{find, position_or_len, before_first, after_first, list_any}
+use Rattle.std.specs.Option.{option_map, option_map_or}
 use Rattle.std.specs.Str.{bytes_eq, trim}
 use Rattle.std.specs.Borrow.{Bor}
 use Rattle.std.specs.Iterator.{DrainsIf}
 use Rattle.std.specs.Str.Iter.{split_whitespace_rest, split_whitespace_steps}
 use Rattle.std.specs.Str.Parse.{ParsesUnsigned}
 use Rattle.std.specs.declared.str.SplitWhitespace.{SplitWhitespace}
-use Rattle.vector_files.specs.declared.blocks.Field.{Field}
+use Rattle.vector_files.specs.Field.{NamedValue, Lines}
 use Rattle.vector_files.specs.Hex.{decoded}
 
 -- ---- lines
--- what a field says, and where
-pub record Said : Type 0 where
-  pub name : List ℕ
-  pub value : List ℕ
-  pub line : ℕ
-
-abbrev pub said : Field → Said
-said field = record { name = field.name.now; value = field.value.now; line = field.line }
-
 abbrev pub equals : ℕ → Bool
 equals c = c == 61
 
--- what stands before a line's first equals sign and what stands behind it, without white space at the ends; a line without one says nothing
-abbrev pub saying : List ℕ → ℕ → List Said
-saying text line = cond (nat_lt (position_or_len equals text) (length text)) (record { name = trim (before_first equals text); value = trim (after_first equals text); line = line } ∷ []) []
+-- a line that has an equals sign
+abbrev pub HasValue : List ℕ → Type 0
+HasValue text = position_or_len equals text < length text
+
+-- what stands before a line's first equals sign and what stands behind it, without white space at the ends
+abbrev pub named_value : List ℕ → ℕ → NamedValue
+named_value text line = record { name = trim (before_first equals text); value = trim (after_first equals text); line = line }
+
+-- ---- blocks
+abbrev pub names_of : Lines → List (List ℕ)
+names_of block = map (λ line. line.name) block
+
+-- the number of the first line, if there is one
+abbrev pub first_line : Lines → ℕ
+first_line block = option_map_or (λ line. line.line) (slice_get block 0) 0
+
+-- a block has a line of that name
+abbrev pub has_name : Lines → List ℕ → Bool
+has_name block name = list_any (λ line. bytes_eq line.name name) block
+
+-- no name stands in a block twice
+abbrev pub NamesOnce : Lines → Type 0
+NamesOnce block = AllPairs (λ a b. a ≢ b) (names_of block)
 
 -- ---- values
--- the first field of that name, if there is one, and its value
-abbrev pub field_of : List ℕ → List Field → Option Field
-field_of name fields = find (λ field. bytes_eq field.name.now name) fields
+-- the line of that name, if there is one, and its value
+abbrev pub line_of : List ℕ → Lines → Option NamedValue
+line_of name block = find (λ line. bytes_eq line.name name) block
 
-abbrev pub value_of : List ℕ → List Field → Option (List ℕ)
-value_of name fields = option_map (λ field. field.value.now) (field_of name fields)
+abbrev pub value_of : List ℕ → Lines → Option (List ℕ)
+value_of name block = option_map (λ line. line.value) (line_of name block)
 
 -- a value that writes a number below 2^32
 abbrev pub IsNumber : Option (List ℕ) → ℕ → Type 0
@@ -58,7 +69,7 @@ abbrev pub IsBytes : Option (List ℕ) → List ℕ → Type 0
 IsBytes value bytes = (t : List ℕ) × (value ≡ Some t) × (decoded t ≡ Some bytes)
 
 -- a message is given whole, or else as one byte (a zero, if none is written) and how often it comes
-abbrev pub IsMessage : List Field → List ℕ → Type 0
-IsMessage fields bytes = MatchOption (value_of (codes "message") fields)
-    ((fill : List ℕ) × (n : ℕ) × IsBytes (value_of (codes "message_fill") fields) fill × IsNumber (value_of (codes "message_length") fields) n × (bytes ≡ replicate n (slice_index fill 0)))
+abbrev pub IsMessage : Lines → List ℕ → Type 0
+IsMessage block bytes = MatchOption (value_of (codes "message") block)
+    ((fill : List ℕ) × (n : ℕ) × IsBytes (value_of (codes "message_fill") block) fill × IsNumber (value_of (codes "message_length") block) n × (bytes ≡ replicate n (slice_index fill 0)))
     (λ t. decoded t ≡ Some bytes)

@@ -49,8 +49,8 @@ impl HashName {
     // The hash that a block names.
     pub fn of(block: &Block) -> anyhow::Result<HashName>
         ensures { MatchResult result
-            (λ h. value_of (codes "hash") block.now.fields.items ≡ Some (name_of h))
-            (λ _. (h : HashName) → value_of (codes "hash") block.now.fields.items ≢ Some (name_of h)) }
+            (λ h. value_of (codes "hash") block.now ≡ Some (name_of h))
+            (λ _. (h : HashName) → value_of (codes "hash") block.now ≢ Some (name_of h)) }
     {
         Ok(HashName::try_from(block.required("hash")?)?)
     }

@@ -1,66 +1,137 @@
 // One file, block by block.
-use crate::blocks::Block;
-use crate::count::Count;
-use crate::suite::Suite;
+ghost use Rattle.std.specs.Prelude.{◌≡◌, ◌∷◌, [], List, IfOk, OnOk, MatchBool, ⊤, All, IsTrue};
+ghost use Rattle.vector_files.specs.Cases.{Question, questions, questions_of, Comes, IsAsked, counted, plus};
+ghost use Rattle.vector_files.specs.Cases.{is_known, IsKnown};
+ghost use Rattle.vector_files.specs.Cases.Question.{Line};
+ghost use Rattle.vector_files.specs.declared.count.Outcome.{Outcome};
+ghost use Rattle.vector_files.specs.Texts.{blocks_of, IsVectorText};
 
+use crate::blocks::{Block, Field};
+use crate::count::{Count, Outcome};
+use crate::names::{has, is_remark};
+use crate::suite::Suite;
+use crate::text::blocks_of;
+use crate::waiting::Waiting;
+use anyhow::{Context, anyhow, ensure};
+
+/// A suite on its way through a file.
 #[derive(Drop)]
 pub(crate) struct Run<'a, S> {
     rt: &'a HostRuntime,
     file: &'a str,
+    waiting: Waiting,
     suite: S,
     count: Count,
 }
 
 impl<'a, S: Suite + Drop> Run<'a, S> {
-    pub(crate) fn new(rt: &'a HostRuntime, file: &'a str, suite: S) -> Run<'a, S> {
+    pub(crate) fn new(rt: &'a HostRuntime, file: &'a str, waiting: Waiting, suite: S) -> Run<'a, S>
+        ensures waiting { result.waiting ≡ waiting }
+        ensures suite { result.suite ≡ suite }
+        ensures count { result.count ≡ counted [] }
+    {
         Run {
             rt,
             file,
+            waiting,
             suite,
             count: Count::default(),
         }
     }
 
-    // The number of cases of a text, and of the wrong ones, each of which is named.
-    pub(crate) fn text(mut self, text: &str) -> anyhow::Result<Count> {
-        let heap = self.rt.alloc();
-        let mut block = Block::new(heap);
-        for (before, line) in text.lines().enumerate() {
-            if line.is_empty() {
-                self.block(&block)?;
-                block = Block::new(heap);
-            } else if !line.starts_with('#') {
-                block.add(line, before.saturating_add(1))?;
-            }
-        }
-        self.block(&block)?;
-        Ok(self.count)
+    /// Whether the blocks may have a name.
+    fn knows(&self, name: &str) -> bool
+        ensures { result ≡ is_known S.values S.cases self.now.waiting name.now }
+    {
+        let names = S::names();
+        is_remark(name)
+            || has(names.values, name)
+            || has(names.cases, name)
+            || self.waiting.has_line(name)
     }
 
-    // The cases of a block and its lines.
-    fn block(&mut self, block: &Block) -> anyhow::Result<()> {
-        let Some(first) = block.fields().first() else {
-            return Ok(());
-        };
-        let answer = self.suite.check(block)?;
-        self.add(first.line(), answer)?;
-        for field in block.fields() {
-            let answer = self.suite.check_line(block, field.name())?;
-            self.add(field.line(), answer)?;
+    /// What comes of the question about a line.
+    fn line(&mut self, block: &Block, field: &Field) -> anyhow::Result<Outcome>
+        ensures waiting { self.new.waiting ≡ self.old.waiting }
+        ensures count { self.new.count ≡ self.old.count }
+        ensures comes { IfOk result (λ outcome. Comes S.answers S.line_answers S.cases self.old.waiting
+            self.old.suite (Line block.now field.now) outcome self.new.suite) }
+    {
+        let name = field.name();
+        if self.waiting.has_line(name) {
+            return Ok(Outcome::Waits);
         }
-        Ok(())
+        if has(S::names().cases, name) {
+            return Ok(Outcome::verdict(self.suite.check_line(block, name)?));
+        }
+        Ok(Outcome::NoCase)
     }
 
-    // Counts a case, and names it if it is wrong.
-    fn add(&mut self, line: usize, answer: Option<bool>) -> anyhow::Result<()> {
-        let Some(right) = answer else {
-            return Ok(());
-        };
-        if !right {
+    /// Counts what came of a question, and names the line if a case is wrong.
+    fn add(&mut self, line: usize, outcome: Outcome) -> anyhow::Result<()>
+        ensures waiting { self.new.waiting ≡ self.old.waiting }
+        ensures suite { self.new.suite ≡ self.old.suite }
+        ensures count { OnOk result (self.new.count ≡ plus self.old.count (counted (outcome ∷ []))) }
+    {
+        if outcome == Outcome::Wrong {
             let file = self.file;
             println!(self.rt; "{file}: the case at line {line} is wrong")?;
         }
-        self.count += Count::of(right);
+        self.count = self
+            .count
+            .plus(Count::of(outcome))
+            .context("there are more cases than can be counted")?;
         Ok(())
+    }
+
+    /// It is an error if the blocks may not have the name of some line.
+    fn check_names(&self, block: &Block) -> anyhow::Result<()>
+        ensures { OnOk result (All (λ line. IsTrue (is_known S.values S.cases self.now.waiting line.name)) block.now) }
+    {
+        for field in block.fields() {
+            let (name, line) = (field.name(), field.line());
+            ensure!(
+                self.knows(name),
+                "line {line}: the name {name} is not known"
+            );
+        }
+        Ok(())
+    }
+
+    /// The questions about a block.
+    fn block(&mut self, block: &Block) -> anyhow::Result<()>
+        ensures waiting { OnOk result (self.new.waiting ≡ self.old.waiting) }
+        ensures known { OnOk result (IsKnown S.values S.cases self.old.waiting block.now) }
+        ensures asked { OnOk result (IsAsked S.answers S.line_answers S.cases self.old.waiting
+            (questions self.old.waiting block.now) self.old.suite self.old.count self.new.suite self.new.count) }
+    {
+        if self.waiting.has_block(block) {
+            return self.add(block.line(), Outcome::Waits);
+        }
+        self.check_names(block)?;
+        let answer = self.suite.check(block)?;
+        self.add(block.line(), Outcome::of(answer))?;
+        for field in block.fields() {
+            let outcome = self.line(block, field)?;
+            self.add(field.line(), outcome)?;
+        }
+        Ok(())
+    }
+
+    /// The count over a text.
+    pub(crate) fn text(mut self, text: &str) -> anyhow::Result<Count>
+        ensures known { OnOk result (All (IsKnown S.values S.cases self.entry.waiting) (blocks_of text.now)) }
+        ensures sound { OnOk result (IsVectorText text.now) }
+        ensures counted { IfOk result (λ count. (after : S) × IsAsked S.answers S.line_answers S.cases self.entry.waiting
+            (questions_of self.entry.waiting text.now) self.entry.suite self.entry.count after count) }
+    {
+        let file = self.file;
+        let blocks = blocks_of(self.rt.alloc(), text).context(file)?;
+        for block in &blocks {
+            let first = block.line();
+            self.block(block)
+                .context(format_args!("{file}: the block at line {first}"))?;
+        }
+        Ok(self.count)
     }
 }

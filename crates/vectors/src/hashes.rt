@@ -1,15 +1,35 @@
 // Digests and message authentication codes.
+ghost use Rattle.std.specs.Prelude.{map};
+ghost use Rattle.vectors.specs.declared.hashes.TheConstants.{DIGEST_VALUES, MAC_VALUES};
+
 use anyhow::ensure;
 use hash::hmac::hmac;
 use sha256::sha256;
 use shake256::shake256;
-use vector_files::{Block, HashName, Suite, over_hash};
+use vector_files::{Block, HashName, Names, Suite, over_hash};
+
+const DIGEST_VALUES: &[&str] = &[
+    "hash",
+    "message",
+    "message_fill",
+    "message_length",
+    "digest",
+];
 
 #[derive(Drop)]
 pub(crate) struct Digests;
 
 // A switch, since the calls that are tried are each hash's own, of two names.
 impl Suite for Digests {
+    ghost values = { map (λ name. name.now) DIGEST_VALUES.now };
+
+    fn names() -> Names {
+        Names {
+            values: DIGEST_VALUES,
+            cases: &[],
+        }
+    }
+
     fn check(&mut self, block: &Block) -> anyhow::Result<Option<bool>> {
         let message = block.message()?;
         let digest = match HashName::of(block)? {
@@ -20,11 +40,29 @@ impl Suite for Digests {
     }
 }
 
+const MAC_VALUES: &[&str] = &[
+    "hash",
+    "key",
+    "message",
+    "message_fill",
+    "message_length",
+    "mac",
+];
+
 #[derive(Drop)]
 pub(crate) struct Macs;
 
 // A key of fewer bytes is filled up with zeros; a longer one is outside of what is offered. Some codes are given by their front alone.
 impl Suite for Macs {
+    ghost values = { map (λ name. name.now) MAC_VALUES.now };
+
+    fn names() -> Names {
+        Names {
+            values: MAC_VALUES,
+            cases: &[],
+        }
+    }
+
     fn check(&mut self, block: &Block) -> anyhow::Result<Option<bool>> {
         let given = block.bytes("key")?;
         if given.len() > 32 {

@@ -1,4 +1,7 @@
 // Pads and check pads, by HMAC and of books.
+ghost use Rattle.std.specs.Prelude.{map};
+ghost use Rattle.vectors.specs.declared.pads_and_books.TheConstants.{PAD_VALUES, BOOK_VALUES};
+
 use crate::signatures::{height_of, width_of};
 use anyhow::Context;
 use hash::Hash;
@@ -7,7 +10,7 @@ use rows::Row;
 use sha256::sha256;
 use sizes::{Height, Width};
 use std::array::from_fn;
-use vector_files::{Block, HashName, Suite, over_hash};
+use vector_files::{Block, HashName, Names, Suite, over_hash};
 
 fn label_of(block: &Block) -> anyhow::Result<Label> {
     Ok(Label {
@@ -62,10 +65,32 @@ fn label_bytes(block: &Block) -> anyhow::Result<Vec<u8>> {
     Ok(bytes)
 }
 
+const PAD_VALUES: &[&str] = &[
+    "hash",
+    "key_bytes",
+    "key",
+    "kind",
+    "i",
+    "j",
+    "pad",
+    "prefix",
+    "check_pad",
+    "label",
+];
+
 #[derive(Drop)]
 pub(crate) struct HmacSources;
 
 impl Suite for HmacSources {
+    ghost values = { map (λ name. name.now) PAD_VALUES.now };
+
+    fn names() -> Names {
+        Names {
+            values: PAD_VALUES,
+            cases: &[],
+        }
+    }
+
     fn check(&mut self, block: &Block) -> anyhow::Result<Option<bool>> {
         let key = block.array("key_bytes")?;
         let answered = over_hash!(HashName::of(block)?, keyed_answers(&key, block))?;
@@ -136,6 +161,24 @@ fn rows_of_book(block: &Block, length: u32, salt: &[u8]) -> anyhow::Result<Vec<u
     Ok(bytes)
 }
 
+const BOOK_VALUES: &[&str] = &[
+    "book_bytes",
+    "salt",
+    "first_key",
+    "h",
+    "w",
+    "check_key",
+    "keys_held",
+    "rows_a_key",
+    "key",
+    "kind",
+    "i",
+    "j",
+    "pad",
+    "prefix",
+    "check_pad",
+];
+
 // The book that the questions behind it are put to.
 #[derive(Drop, Default)]
 pub(crate) struct Books {
@@ -143,6 +186,15 @@ pub(crate) struct Books {
 }
 
 impl Suite for Books {
+    ghost values = { map (λ name. name.now) BOOK_VALUES.now };
+
+    fn names() -> Names {
+        Names {
+            values: BOOK_VALUES,
+            cases: &[],
+        }
+    }
+
     // The case of a new book is which keys it holds.
     fn check(&mut self, block: &Block) -> anyhow::Result<Option<bool>> {
         if block.text("book_bytes").is_some() {

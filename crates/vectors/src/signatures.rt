@@ -1,4 +1,7 @@
 // Digits, trees, signatures and verdicts.
+ghost use Rattle.std.specs.Prelude.{map};
+ghost use Rattle.vectors.specs.declared.signatures.TheConstants.{DIGIT_VALUES, SIGNATURE_VALUES, VERDICT_VALUES};
+
 use anyhow::{Context, ensure};
 use either::{Either, Left, Right, for_both};
 use hash::Hash;
@@ -7,7 +10,7 @@ use rows::{Identifier, Origin, Seed};
 use sha256::Hasher as Sha256;
 use shake256::Hasher as Shake256;
 use sizes::{Height, Width};
-use vector_files::{Block, HashName, Suite, over_hash};
+use vector_files::{Block, HashName, Names, Suite, over_hash};
 
 // Width and height are read by a function each: one for both would take the type, the name and the text.
 pub(crate) fn width_of(block: &Block) -> anyhow::Result<Width> {
@@ -22,10 +25,21 @@ pub(crate) fn height_of(block: &Block) -> anyhow::Result<Height> {
         .context("a vector has an unknown height")
 }
 
+const DIGIT_VALUES: &[&str] = &["w", "digest", "digits", "checksum_digits"];
+
 #[derive(Drop)]
 pub(crate) struct Digits;
 
 impl Suite for Digits {
+    ghost values = { map (λ name. name.now) DIGIT_VALUES.now };
+
+    fn names() -> Names {
+        Names {
+            values: DIGIT_VALUES,
+            cases: &[],
+        }
+    }
+
     fn check(&mut self, block: &Block) -> anyhow::Result<Option<bool>> {
         let width = width_of(block)?;
         let digest = block.array::<32>("digest")?;
@@ -59,6 +73,21 @@ fn grow(block: &Block) -> anyhow::Result<AnyTree> {
     })
 }
 
+const SIGNATURE_VALUES: &[&str] = &[
+    "hash",
+    "h",
+    "w",
+    "identifier",
+    "seed",
+    "root",
+    "key",
+    "message",
+    "message_fill",
+    "message_length",
+    "signature",
+    "verdict",
+];
+
 // Signatures follow the root of their tree, in its block or in blocks of their own.
 #[derive(Drop, Default)]
 pub(crate) struct Signatures {
@@ -85,6 +114,15 @@ fn signs(tree: &AnyTree, block: &Block) -> anyhow::Result<bool> {
 }
 
 impl Suite for Signatures {
+    ghost values = { map (λ name. name.now) SIGNATURE_VALUES.now };
+
+    fn names() -> Names {
+        Names {
+            values: SIGNATURE_VALUES,
+            cases: &[],
+        }
+    }
+
     fn check(&mut self, block: &Block) -> anyhow::Result<Option<bool>> {
         if block.text("root").is_some() {
             let tree = grow(block)?;
@@ -102,10 +140,29 @@ impl Suite for Signatures {
     }
 }
 
+const VERDICT_VALUES: &[&str] = &[
+    "hash",
+    "root",
+    "message",
+    "message_fill",
+    "message_length",
+    "signature",
+    "verdict",
+];
+
 #[derive(Drop)]
 pub(crate) struct Verdicts;
 
 impl Suite for Verdicts {
+    ghost values = { map (λ name. name.now) VERDICT_VALUES.now };
+
+    fn names() -> Names {
+        Names {
+            values: VERDICT_VALUES,
+            cases: &[],
+        }
+    }
+
     fn check(&mut self, block: &Block) -> anyhow::Result<Option<bool>> {
         let root = block.bytes("root")?;
         let message = block.message()?;

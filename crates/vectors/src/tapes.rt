@@ -1,9 +1,24 @@
 // Tapes: whether they are in order, what they mean, and a list of spends.
+ghost use Rattle.std.specs.Prelude.{map};
+ghost use Rattle.vectors.specs.declared.tapes.TheConstants.{VALUES};
+
 use crate::signatures::height_of;
 use ledger::Ledger;
 use sizes::Height;
 use tape::Tape;
-use vector_files::{Block, Suite};
+use vector_files::{Block, Names, Suite};
+
+const VALUES: &[&str] = &[
+    "h",
+    "tape",
+    "test",
+    "room",
+    "spent",
+    "spends",
+    "answers",
+    "room_after",
+    "tape_after",
+];
 
 #[derive(Drop)]
 pub(crate) struct Tapes;
@@ -34,6 +49,15 @@ fn spends_answer(tape: &mut Tape, keys: &[u32], answers: &[u32]) -> bool {
 }
 
 impl Suite for Tapes {
+    ghost values = { map (λ name. name.now) VALUES.now };
+
+    fn names() -> Names {
+        Names {
+            values: VALUES,
+            cases: &[],
+        }
+    }
+
     fn check(&mut self, block: &Block) -> anyhow::Result<Option<bool>> {
         let height = height_of(block)?;
         let mut bytes = block.bytes("tape")?;

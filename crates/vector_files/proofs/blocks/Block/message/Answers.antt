@@ -5,7 +5,7 @@ use Rattle.vector_files.proofs.blocks.Block.message.Goals as goal
 
 pub returns : goal.returns
 returns c =
-    let fields = c.args.self.now.fields.items in
+    let fields = c.args.self.now in
     let bytes = c.in_ok-vec.field-0.items in
     let none : value_of (codes "message") fields ≡ None = search rules in
     let written : Type 0 = (fill : List ℕ) × (n : ℕ) × IsBytes (value_of (codes "message_fill") fields) fill × IsNumber (value_of (codes "message_length") fields) n × (bytes ≡ replicate n (slice_index fill 0)) in

@@ -1,0 +1,49 @@
+-- A vector file's text, cut into blocks.
+use Rattle.std.specs.Prelude.{ℕ, List, map, filter, length, Bool, not, nat_eq, ◌==◌, All, codes}
+use Rattle.std.specs.List.{slice_split, enumerate_from, starts_with}
+use Rattle.std.specs.Str.{trim}
+use Rattle.std.specs.Str.Lines.{lines}
+use Rattle.vector_files.specs.declared.text.Line.{Line}
+use Rattle.vector_files.specs.Field.{NamedValue, Lines}
+use Rattle.vector_files.specs.Blocks.{HasValue, named_value, NamesOnce}
+
+-- numbers and texts of some lines
+abbrev pub lines_of : List Line → List (ℕ × List ℕ)
+lines_of some = map (λ line. (line.number, line.text.now)) some
+
+-- the lines of a text, numbered from 1
+abbrev pub numbered : List ℕ → List (ℕ × List ℕ)
+numbered text = enumerate_from 1 (lines text)
+
+-- a line of white space alone ends a block
+abbrev pub is_blank : ℕ × List ℕ → Bool
+is_blank line = length (trim line.1) == 0
+
+-- a line that begins with # is a comment
+abbrev pub is_comment : ℕ × List ℕ → Bool
+is_comment line = starts_with nat_eq line.1 (codes "#")
+
+-- some lines without the comments
+abbrev pub said : List (ℕ × List ℕ) → List (ℕ × List ℕ)
+said some = filter (λ line. not (is_comment line)) some
+
+-- each line that is no comment has a value
+abbrev pub IsValued : List (ℕ × List ℕ) → Type 0
+IsValued some = All (λ line. HasValue line.1) (said some)
+
+-- what some lines say
+abbrev pub block_of : List (ℕ × List ℕ) → Lines
+block_of some = map (λ line. named_value line.1 line.0) (said some)
+
+-- what stands between the blank lines of a text
+abbrev pub parts_of : List ℕ → List (List (ℕ × List ℕ))
+parts_of text = slice_split is_blank (numbered text)
+
+-- the blocks of a text: what its parts say, where they say something
+abbrev pub blocks_of : List ℕ → List Lines
+blocks_of text = filter (λ block. not (length block == 0)) (map block_of (parts_of text))
+
+-- a text that is well formed: each line but blank ones and comments has a value, and no block has a name twice
+pub record IsVectorText (text : List ℕ) : Type 0 where
+  pub valued : All IsValued (parts_of text)
+  pub once : All NamesOnce (blocks_of text)
