@@ -45,13 +45,19 @@ impl<'a> Model for Folder<'a> {
 }
 
 impl<'a> Folder<'a> {
-    /// The folder at a path, of which no file is taken yet. It is an error if it cannot be read.
+    /// The folder at a path, of which no file is taken yet. It is an error if it cannot be read. What
+    /// has a name that is not UTF-8 is passed over.
     pub fn open(rt: &'a HostRuntime, path: &'a str, waiting: Waiting) -> anyhow::Result<Folder<'a>>
         ensures { IfOk result (λ folder. IsNew folder path.now waiting) }
     {
         let mut left = Vec::new(rt.alloc());
         for entry in fs::read_dir(rt, path).context(path)? {
-            let entry = entry?;
+            let entry = match entry {
+                Ok(entry) => entry,
+                // No call can ask for a file whose name is no text.
+                Err(error) if error.kind() == io::ErrorKind::InvalidFilename => continue,
+                Err(error) => return Err(error.into()),
+            };
             let name = entry.file_name();
             if name.ends_with(".txt") {
                 left.push(String::from_str(rt.alloc(), name)?)?;
