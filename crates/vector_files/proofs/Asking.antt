@@ -1,12 +1,16 @@
 -- Questions that are asked one after the other, and the count of what comes of them.
-use Rattle.std.proofs.Common.{◌≡◌, ℕ, ◌+◌, ◌<◌, length, take, get_or, Bool, true, false, cond, List, [], ◌∷◌, ◌++◌, map, count_by, Option, ap, sym, ◌∙◌, refl, subst, arith, add_assoc, zero-add}
+use Rattle.std.proofs.Common.{◌≡◌, ℕ, ◌+◌, ◌<◌, length, take, get_or, All, Bool, true, false, cond, List, [], ◌∷◌, ◌++◌, map, count_by, Option, ap, sym, ◌∙◌, refl, subst, arith, add_assoc, zero-add}
 use Rattle.std.proofs.lemmas.List.Sums.{sum_by-append}
 use Rattle.std.proofs.lemmas.List.{take_more, map-append}
+use Rattle.std.proofs.lemmas.List.Concat.{flat_map-append}
+use Rattle.std.proofs.lemmas.List.Elements.{All-append}
+use Rattle.std.specs.Prelude.{option_to_list}
+use Rattle.std.specs.List.{flat_map}
 use Rattle.vector_files.specs.declared.count.Count.{Count}
 use Rattle.vector_files.specs.declared.count.Outcome.{Outcome}
 use Rattle.vector_files.specs.declared.waiting.Waiting.{Waiting}
 use Rattle.vector_files.specs.Field.{NamedValue, Lines}
-use Rattle.vector_files.specs.Cases.{Question, Comes, Come, IsAsked, is_case, is_wrong, is_waiting, counted, plus, questions, outcome_of}
+use Rattle.vector_files.specs.Cases.{Question, Comes, Come, IsAsked, IsKnown, is_case, is_wrong, is_waiting, counted, plus, questions, outcome_of}
 use Rattle.vector_files.specs.Cases.Question.{Whole, Line}
 use Rattle.vector_files.specs.Waits.{block_waits}
 use Rattle.vector_files.specs.declared.count.Outcome.TheVariants.{Waits}
@@ -34,6 +38,11 @@ pub line_more : (block items : Lines) (i : ℕ) (line : NamedValue) → i < leng
     → Whole block ∷ map (Line block) (take (i + 1) items) ≡ (Whole block ∷ map (Line block) (take i items)) ++ Line block line ∷ []
 line_more block items i line inside is =
     ap (λ qs. Whole block ∷ qs) (ap (map (Line block)) (take_more items i line inside ∙ ap (λ l. take i items ++ l ∷ []) (sym is)) ∙ map-append (Line block) (take i items) (line ∷ []))
+
+-- names that are known in some blocks, and in the one that ended behind them
+pub known_ended : (values cases : List (List ℕ)) (first waiting : Waiting) (blocks : List Lines) (block : Option Lines) → waiting ≡ first
+    → All (IsKnown values cases first) blocks → All (IsKnown values cases waiting) (option_to_list block) → All (IsKnown values cases first) (blocks ++ option_to_list block)
+known_ended values cases first waiting blocks block same before last = All-append (IsKnown values cases first) blocks (option_to_list block) before (subst (λ w. All (IsKnown values cases w) (option_to_list block)) same last)
 
 module _ {S : Type 0} (answers : S → Lines → Option Bool → S → Type 0) (line_answers : S → Lines → List ℕ → Bool → S → Type 0) (cases : List (List ℕ)) (waiting : Waiting) where
   -- some questions, and then others
@@ -80,3 +89,11 @@ module _ {S : Type 0} (answers : S → Lines → Option Bool → S → Type 0) (
       let grown : plus (counted []) (counted asked.outcomes) ≡ counted asked.outcomes =
       same_count _ _ _ _ _ _ (zero-add (count_by is_case asked.outcomes)) (zero-add (count_by is_wrong asked.outcomes)) (zero-add (count_by is_waiting asked.outcomes)) in
       record { outcomes = asked.outcomes; come = asked.come; grown = added ∙ ap (plus c) (asked.grown ∙ grown) }
+
+-- the questions about some blocks, and then about the one that ended behind them
+pub asked_ended : {S : Type 0} (answers : S → Lines → Option Bool → S → Type 0) (line_answers : S → Lines → List ℕ → Bool → S → Type 0) (cases : List (List ℕ)) (first waiting : Waiting) (blocks : List Lines) (block : Option Lines) (s m t : S) (c d e : Count) → waiting ≡ first
+    → IsAsked answers line_answers cases first (flat_map (questions first) blocks) s c m d → IsAsked answers line_answers cases waiting (flat_map (questions waiting) (option_to_list block)) m d t e
+    → IsAsked answers line_answers cases first (flat_map (questions first) (blocks ++ option_to_list block)) s c t e
+asked_ended answers line_answers cases first waiting blocks block s m t c d e same before last =
+    let behind = subst (λ w. IsAsked answers line_answers cases w (flat_map (questions w) (option_to_list block)) m d t e) same last in
+    rw (flat_map-append (questions first) blocks (option_to_list block)) (asked_on answers line_answers cases first _ _ s m t c d e before behind)

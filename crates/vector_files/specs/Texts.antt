@@ -1,15 +1,10 @@
 -- A vector file's text, cut into blocks.
-use Rattle.std.specs.Prelude.{ℕ, List, map, filter, length, Bool, not, nat_eq, ◌==◌, All, codes}
+use Rattle.std.specs.Prelude.{◌≡◌, ℕ, List, [], ◌∷◌, ◌++◌, map, filter, length, Bool, false, not, nat_eq, ◌==◌, All, codes, Option, None, Some, if◌then◌else◌}
 use Rattle.std.specs.List.{slice_split, enumerate_from, starts_with}
 use Rattle.std.specs.Str.{trim}
 use Rattle.std.specs.Str.Lines.{lines}
-use Rattle.vector_files.specs.declared.text.Line.{Line}
-use Rattle.vector_files.specs.Field.{NamedValue, Lines}
+use Rattle.vector_files.specs.Field.{Lines}
 use Rattle.vector_files.specs.Blocks.{HasValue, named_value, NamesOnce}
-
--- numbers and texts of some lines
-abbrev pub lines_of : List Line → List (ℕ × List ℕ)
-lines_of some = map (λ line. (line.number, line.text.now)) some
 
 -- the lines of a text, numbered from 1
 abbrev pub numbered : List ℕ → List (ℕ × List ℕ)
@@ -47,3 +42,23 @@ blocks_of text = filter (λ block. not (length block == 0)) (map block_of (parts
 pub record IsVectorText (text : List ℕ) : Type 0 where
   pub valued : All IsValued (parts_of text)
   pub once : All NamesOnce (blocks_of text)
+
+-- ---- line by line
+-- what stands behind the last blank line, once a line more is read
+abbrev pub after_line : Lines → ℕ × List ℕ → Lines
+after_line block line = if is_blank line then [] else block ++ block_of (line ∷ [])
+
+-- a block that has ended, if it says something
+abbrev pub ended : Lines → Option Lines
+ended block = if length block == 0 then None else Some block
+
+-- the block that a line ends, if it ends one
+abbrev pub ended_by : Lines → ℕ × List ℕ → Option Lines
+ended_by block line = if is_blank line then ended block else None
+
+-- a line was read behind a block, which it ended or made longer: it is well formed, and gives no name twice
+pub record IsTaken (before : Lines) (line : ℕ × List ℕ) (after : Lines) (block : Option Lines) : Type 0 where
+  pub says : after ≡ after_line before line
+  pub ends : block ≡ ended_by before line
+  pub valued : is_blank line ≡ false → IsValued (line ∷ [])
+  pub once : NamesOnce before → NamesOnce after

@@ -10,7 +10,7 @@ use crate::count::Count;
 use crate::names::begins;
 use crate::run::Run;
 use crate::suite::Suite;
-use crate::text::blocks_of;
+use crate::text::count_blocks;
 use crate::verdict::Verdict;
 use crate::waiting::Waiting;
 use anyhow::Context;
@@ -126,9 +126,7 @@ impl<'a> Folder<'a> {
             return Ok(());
         };
         let text = self.read(name)?;
-        let waiting = blocks_of(self.rt.alloc(), text.as_str())
-            .context(name)?
-            .len();
+        let waiting = count_blocks(self.rt.alloc(), text.as_str()).context(name)?;
         report_waiting(self.rt, name, waiting)?;
         let total = self.total(Count {
             cases: 0,

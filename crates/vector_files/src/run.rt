@@ -1,5 +1,7 @@
 // One file, block by block.
 ghost use Rattle.std.specs.Prelude.{◌≡◌, ◌∷◌, [], List, IfOk, OnOk, MatchBool, ⊤, All, IsTrue};
+ghost use Rattle.std.specs.Prelude.{option_to_list};
+ghost use Rattle.std.specs.List.{flat_map};
 ghost use Rattle.vector_files.specs.Cases.{Question, questions, questions_of, Comes, IsAsked, counted, plus};
 ghost use Rattle.vector_files.specs.Cases.{is_known, IsKnown};
 ghost use Rattle.vector_files.specs.Cases.Question.{Line};
@@ -10,7 +12,7 @@ use crate::blocks::{Block, Field};
 use crate::count::{Count, Outcome};
 use crate::names::{has, is_remark};
 use crate::suite::Suite;
-use crate::text::blocks_of;
+use crate::text::Cut;
 use crate::waiting::Waiting;
 use anyhow::{Context, anyhow, ensure};
 
@@ -118,20 +120,37 @@ impl<'a, S: Suite + Drop> Run<'a, S> {
         Ok(())
     }
 
-    /// The count over a text.
+    /// The questions about a block that ended, if one did; an error names file and block.
+    fn ended(&mut self, block: Option<Block>) -> anyhow::Result<()>
+        ensures waiting { OnOk result (self.new.waiting ≡ self.old.waiting) }
+        ensures known { OnOk result
+            (All (IsKnown S.values S.cases self.old.waiting) (option_to_list block.entry)) }
+        ensures asked { OnOk result (IsAsked S.answers S.line_answers S.cases self.old.waiting
+            (flat_map (questions self.old.waiting) (option_to_list block.entry))
+            self.old.suite self.old.count self.new.suite self.new.count) }
+    {
+        let Some(block) = block else {
+            return Ok(());
+        };
+        let (file, first) = (self.file, block.line());
+        self.block(&block)
+            .context(format_args!("{file}: the block at line {first}"))?;
+        Ok(())
+    }
+
+    /// The count over a text. Each block is asked about before a line behind it is read.
     pub(crate) fn text(mut self, text: &str) -> anyhow::Result<Count>
         ensures known { OnOk result (All (IsKnown S.values S.cases self.entry.waiting) (blocks_of text.now)) }
         ensures sound { OnOk result (IsVectorText text.now) }
         ensures counted { IfOk result (λ count. (after : S) × IsAsked S.answers S.line_answers S.cases self.entry.waiting
             (questions_of self.entry.waiting text.now) self.entry.suite self.entry.count after count) }
     {
-        let file = self.file;
-        let blocks = blocks_of(self.rt.alloc(), text).context(file)?;
-        for block in &blocks {
-            let first = block.line();
-            self.block(block)
-                .context(format_args!("{file}: the block at line {first}"))?;
+        let mut cut = Cut::new(self.rt.alloc());
+        for line in text.lines() {
+            let block = cut.take(line).context(self.file)?;
+            self.ended(block)?;
         }
+        self.ended(cut.end())?;
         Ok(self.count)
     }
 }

@@ -1,32 +1,28 @@
-use Rattle.std.proofs.Common.{rules, ◌≡◌, ℕ, List, Bor, ◌∷◌, [], length, map, ap, sym, ◌∙◌, subst, arith}
-use Rattle.std.specs.List.{slice_split}
-use Rattle.std.specs.Slice.Iter.{split_done, split_callee}
-use Rattle.std.proofs.lemmas.Bool.Decides.{nat_tests}
-use Rattle.std.proofs.lemmas.List.{map-append}
-use Rattle.vector_files.specs.declared.text.Line.{Line}
-use Rattle.vector_files.specs.Texts.{lines_of, is_blank, numbered}
-use Rattle.vector_files.proofs.Cutting.{IsCut, cut_empty, cut_block, parts_end, all_cut}
+use Rattle.std.proofs.Common.{rules, ◌≡◌, ◌+◌, ◌++◌, ap, ◌∙◌}
+use Rattle.std.specs.Prelude.{option_to_list}
+use Rattle.std.specs.Str.Iter.{lines_rest}
+use Rattle.std.proofs.lemmas.Iterator.Consumers.{YieldsList-end}
+use Rattle.std.proofs.lemmas.Iterator.Splits.{YieldsList-from_lines}
+use Rattle.vector_files.specs.Texts.{IsTaken}
+use Rattle.vector_files.proofs.Cutting.{cut_begin, cut_more, cut_end}
 use Rattle.vector_files.proofs.text.blocks_of.Goals as goal
 
-pub loop-part-preserved-then-is_empty : goal.loop-part-preserved-then-is_empty
-loop-part-preserved-then-is_empty c =
-    let cut : IsCut (lines_of c.in-Some.part.now) c.in_ok-block.block = record { is = search rules; valued = search rules; once = search rules } in
-    let tested = ap length c.fields.ensures in
-    let none : length c.in_ok-block.block ≡ 0 = grind (arith, nat_tests) in
-    rw (map-append (λ (part : Bor (List Line)). lines_of part.now) c.loop-part.yielded (c.in-Some.part ∷ [])) (cut_empty _ _ _ _ c.loop-part.invariant cut none)
+pub loop-line-init : goal.loop-line-init
+loop-line-init c = rw c.new-blocks.ensures.items (cut_begin _ _ c.new-cut.ensures.number c.new-cut.ensures.block)
 
-pub loop-part-preserved : goal.loop-part-preserved
-loop-part-preserved c =
-    let cut : IsCut (lines_of c.in-Some.part.now) c.in_ok-block.block = record { is = search rules; valued = search rules; once = search rules } in
-    let tested = ap length c.fields.ensures in
-    let some : length c.in_ok-block.block ≡ 0 → ⊥ = λ none. grind (arith, nat_tests) in
-    rw (map-append (λ (part : Bor (List Line)). lines_of part.now) c.loop-part.yielded (c.in-Some.part ∷ []), c.in_ok-push.ensures.items) (cut_block _ _ _ _ c.loop-part.invariant cut some)
+pub loop-line-preserved : goal.loop-line-preserved
+loop-line-preserved c =
+    let block = c.in_ok-take.field-0 in
+    let number : c.take.new.self.number ≡ c.loop-line.cut.number + 1 = search rules in
+    let taken : IsTaken c.loop-line.cut.block (c.loop-line.cut.number + 1, c.in-Some.line.now) c.take.new.self.block block = search rules in
+    let pushed : c.push_ended.new.blocks.items ≡ c.loop-line.blocks.items ++ option_to_list block = search rules in
+    rw pushed (cut_more c.loop-line.yielded c.in-Some.line c.loop-line.blocks.items _ _ _ _ block c.loop-line.invariant number taken)
 
 pub returns : goal.returns
 returns c =
-    let done = ap split_done c.into_iter-part-iterator.ensures.into_iter_gives ∙ c.split-part-items.ensures.done in
-    let callee = ap split_callee c.into_iter-part-iterator.ensures.into_iter_gives ∙ c.split-part-items.ensures.closure in
-    let over = parts_end _ _ _ c.in_ok-lines.lines.items c.loop-part.yielded c.loop-part.yielded_by c.in-None.is c.next.ensures.steps (search rules) done callee (λ line b q called. search rules) in
-    let numbers : lines_of c.in_ok-lines.lines.items ≡ numbered c.args.text.now = search rules in
-    let all = all_cut c.args.text.now _ _ c.loop-part.invariant (over ∙ ap (slice_split is_blank) numbers) in
-    record { cut = all.0; sound = all.1 }
+    let block = c.end.result in
+    let road = YieldsList-from_lines c.args.text.now (ap lines_rest c.into_iter-line-iterator.ensures.into_iter_gives ∙ c.lines-line-items.ensures.rest) in
+    let all_read = (YieldsList-end road c.loop-line.yielded c.loop-line.line-iterator c.loop-line.yielded_by c.next.result c.next.new.self c.in-None.is c.next.ensures.steps).0 in
+    let all = cut_end c.args.text.now c.loop-line.yielded c.loop-line.blocks.items _ _ block c.loop-line.invariant all_read c.end.ensures.ended in
+    let pushed : c.push_ended-2.new.blocks.items ≡ c.loop-line.blocks.items ++ option_to_list block = search rules in
+    record { cut = pushed ∙ all.0; sound = all.1 }

@@ -1,35 +1,51 @@
-use Rattle.std.proofs.Common.{rules, ◌≡◌, ◌+◌, ◌<◌, ◌≤◌, ◌∷◌, ◌++◌, [], List, All, length, take, get_or, ap, sym, ◌∙◌, subst}
+use Rattle.std.proofs.Common.{rules, ◌≡◌, ◌+◌, ◌++◌, [], All, ap, ◌∙◌, subst, refl}
+use Rattle.std.specs.Prelude.{option_to_list}
 use Rattle.std.specs.List.{flat_map}
-use Rattle.std.proofs.lemmas.List.{take_more, take_all, flat_map_more}
-use Rattle.std.proofs.lemmas.List.Elements.{All-push}
-use Rattle.vector_files.specs.Field.{Lines}
+use Rattle.std.specs.Str.Iter.{lines_rest}
+use Rattle.std.proofs.lemmas.Iterator.Consumers.{YieldsList-end}
+use Rattle.std.proofs.lemmas.Iterator.Splits.{YieldsList-from_lines}
 use Rattle.vector_files.specs.Cases.{IsAsked, IsKnown, questions}
-use Rattle.vector_files.specs.Texts.{blocks_of}
-use Rattle.vector_files.proofs.Asking.{asked_on}
+use Rattle.vector_files.specs.Texts.{IsTaken}
+use Rattle.vector_files.proofs.Asking.{asked_none, asked_ended, known_ended}
+use Rattle.vector_files.proofs.Cutting.{cut_begin, cut_more, cut_end}
 use Rattle.vector_files.proofs.run.Run.text.Goals as goal
 
-pub loop-block-preserved : goal.loop-block-preserved
-loop-block-preserved g c =
+pub loop-line-init : goal.loop-line-init
+loop-line-init g c =
     let S = g.S.Suite in
-    let waiting = c.args.self.waiting in
-    let items = c.deref-block-items.result.now in
-    let i = c.loop-block.block-index in
-    let block = c.block-item.result in
-    let before = c.loop-block.invariant in
-    let inside : i < length items = search rules in
-    let same : c.block.new.self.waiting ≡ c.loop-block.self.waiting = search rules in
-    let known : IsKnown S.values S.cases c.loop-block.self.waiting block = search rules in
-    let asked : IsAsked S.answers S.line_answers S.cases c.loop-block.self.waiting (questions c.loop-block.self.waiting block) c.loop-block.self.suite c.loop-block.self.count c.block.new.self.suite c.block.new.self.count = search rules in
-    let more : take (i + 1) items ≡ take i items ++ block ∷ [] = take_more items i block inside ∙ ap (λ b. take i items ++ b ∷ []) (sym c.block-item.is) in
-    let grown : flat_map (questions waiting) (take (i + 1) items) ≡ flat_map (questions waiting) (take i items) ++ questions waiting block = ap (flat_map (questions waiting)) more ∙ sym (flat_map_more (questions waiting) [] (take i items) block) in (
+    (refl, [], cut_begin _ _ c.new-cut.ensures.number c.new-cut.ensures.block, search rules, asked_none S.answers S.line_answers S.cases _ _ _)
+
+pub loop-line-preserved : goal.loop-line-preserved
+loop-line-preserved g c =
+    let S = g.S.Suite in
+    let before = c.loop-line.invariant in
+    let block = c.in_ok-block.block in
+    let number : c.take.new.self.number ≡ c.loop-line.cut.number + 1 = search rules in
+    let taken : IsTaken c.loop-line.cut.block (c.loop-line.cut.number + 1, c.in-Some.line.now) c.take.new.self.block block = search rules in
+    let same : c.ended.new.self.waiting ≡ c.loop-line.self.waiting = search rules in
+    let known : All (IsKnown S.values S.cases c.loop-line.self.waiting) (option_to_list block) = search rules in
+    let asked : IsAsked S.answers S.line_answers S.cases c.loop-line.self.waiting (flat_map (questions c.loop-line.self.waiting) (option_to_list block)) c.loop-line.self.suite c.loop-line.self.count c.ended.new.self.suite c.ended.new.self.count = search rules in (
       same ∙ before.0,
-      subst (All (IsKnown S.values S.cases waiting)) (sym more) (All-push (IsKnown S.values S.cases waiting) _ block before.1 (subst (λ w. IsKnown S.values S.cases w block) before.0 known)),
-      rw grown (asked_on S.answers S.line_answers S.cases waiting _ _ _ _ _ _ _ _ before.2 (subst (λ w. IsAsked S.answers S.line_answers S.cases w (questions w block) c.loop-block.self.suite c.loop-block.self.count c.block.new.self.suite c.block.new.self.count) before.0 asked)),
+      before.1 ++ option_to_list block,
+      cut_more c.loop-line.yielded c.in-Some.line before.1 _ _ _ _ block before.2 number taken,
+      known_ended S.values S.cases _ _ before.1 block before.0 before.3 known,
+      asked_ended S.answers S.line_answers S.cases _ _ before.1 block _ _ _ _ _ _ before.0 before.4 asked,
     )
 
-pub returns-clause-known : goal.returns-clause-known
-returns-clause-known g c =
+pub returns : goal.returns
+returns g c =
     let S = g.S.Suite in
-    let whole : length c.deref-block-items.result.now ≤ c.loop-block.block-index = search rules in
-    let all : c.deref-block-items.result.now ≡ blocks_of c.args.text.now = search rules in
-    subst (All (IsKnown S.values S.cases c.args.self.waiting)) (take_all c.loop-block.block-index c.deref-block-items.result.now whole ∙ all) c.loop-block.invariant.1
+    let before = c.loop-line.invariant in
+    let block = c.end.result in
+    let road = YieldsList-from_lines c.args.text.now (ap lines_rest c.into_iter-line-iterator.ensures.into_iter_gives ∙ c.lines-line-items.ensures.rest) in
+    let all_read = (YieldsList-end road c.loop-line.yielded c.loop-line.line-iterator c.loop-line.yielded_by c.next.result c.next.new.self c.in-None.is c.next.ensures.steps).0 in
+    let all = cut_end c.args.text.now c.loop-line.yielded before.1 _ _ block before.2 all_read c.end.ensures.ended in
+    let known : All (IsKnown S.values S.cases c.loop-line.self.waiting) (option_to_list block) = search rules in
+    let asked : IsAsked S.answers S.line_answers S.cases c.loop-line.self.waiting (flat_map (questions c.loop-line.self.waiting) (option_to_list block)) c.loop-line.self.suite c.loop-line.self.count c.ended-2.new.self.suite c.ended-2.new.self.count = search rules in
+    let all_known = known_ended S.values S.cases _ _ before.1 block before.0 before.3 known in
+    let all_asked = asked_ended S.answers S.line_answers S.cases _ _ before.1 block _ _ _ _ _ _ before.0 before.4 asked in
+    record {
+      known = subst (All (IsKnown S.values S.cases c.args.self.waiting)) all.0 all_known;
+      sound = all.1;
+      counted = (c.ended-2.new.self.suite, subst (λ blocks. IsAsked S.answers S.line_answers S.cases c.args.self.waiting (flat_map (questions c.args.self.waiting) blocks) c.args.self.suite c.args.self.count c.ended-2.new.self.suite c.ended-2.new.self.count) all.0 all_asked);
+    }
