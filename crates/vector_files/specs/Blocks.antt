@@ -4,6 +4,9 @@ use Rattle.std.specs.List.{find, position_or_len, before_first, after_first, lis
 use Rattle.std.specs.Option.{option_map, option_map_or}
 use Rattle.std.specs.Str.{bytes_eq, trim}
 use Rattle.std.specs.Borrow.{Bor}
+use Rattle.std.specs.BTreeSet.{BTreeSet, contains_by}
+use Rattle.std.specs.Cmp.Lexicographic.{slice_cmp}
+use Rattle.std.specs.Ordering.{nat_cmp}
 use Rattle.std.specs.Iterator.{DrainsIf}
 use Rattle.std.specs.Str.Iter.{split_whitespace_rest, split_whitespace_steps}
 use Rattle.std.specs.Str.Parse.{ParsesUnsigned}
@@ -38,6 +41,10 @@ has_name block name = list_any (λ line. bytes_eq line.name name) block
 -- no name stands in a block twice
 abbrev pub NamesOnce : Lines → Type 0
 NamesOnce block = AllPairs (λ a b. a ≢ b) (names_of block)
+
+-- some names are just those of a block
+abbrev pub AreNamesOf : BTreeSet (Bor (List ℕ)) → Lines → Type 0
+AreNamesOf names block = (name : List ℕ) → contains_by (λ k. slice_cmp nat_cmp name k.now) names ≡ has_name block name
 
 -- ---- values
 -- the line of that name, if there is one, and its value
