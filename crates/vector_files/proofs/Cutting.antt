@@ -12,7 +12,7 @@ use Rattle.std.proofs.lemmas.List.Quantifiers.{all_pairs_push}
 use Rattle.std.proofs.lemmas.Slice.Eq.{bytes_eq-Decides}
 use Rattle.vector_files.specs.Field.{NamedValue, Lines}
 use Rattle.vector_files.specs.Blocks.{HasValue, named_value, names_of, has_name, NamesOnce}
-use Rattle.vector_files.specs.Texts.{is_blank, is_comment, said, IsValued, block_of, parts_of, blocks_of, IsVectorText, ended, IsTaken}
+use Rattle.vector_files.specs.Texts.{is_blank, is_silent, said, IsValued, block_of, parts_of, blocks_of, IsVectorText, ended, IsTaken}
 
 -- a block that some lines say
 pub record IsCut (some : List (ℕ × List ℕ)) (block : Lines) : Type 0 where
@@ -40,7 +40,7 @@ new_name (line ∷ block) name none (suc k) d inside same = new_name block name 
 once_more : (block : Lines) (line : NamedValue) → has_name block line.name ≡ false → NamesOnce block → NamesOnce (block ++ line ∷ [])
 once_more block line new once = subst (AllPairs (λ a b. a ≢ b)) (sym (map-append (λ line. line.name) block (line ∷ []))) (all_pairs_push (λ a b. a ≢ b) (names_of block) _ once (new_name block _ new))
 
--- a blank line, a comment, and another line, taken in
+-- a blank line, one that says nothing, and another, taken in
 pub taken_blank : (block : Lines) (x : ℕ × List ℕ) → is_blank x ≡ true → IsTaken block x [] (ended block)
 taken_blank block x blank =
     record {
@@ -50,9 +50,9 @@ taken_blank block x blank =
       once = λ before. search rules;
     }
 
-pub taken_comment : (block : Lines) (x : ℕ × List ℕ) → is_blank x ≡ false → is_comment x ≡ true → IsTaken block x block None
-taken_comment block x plain comment =
-    let none : said (x ∷ []) ≡ [] = rw comment refl in
+pub taken_silent : (block : Lines) (x : ℕ × List ℕ) → is_blank x ≡ false → is_silent x ≡ true → IsTaken block x block None
+taken_silent block x plain silent =
+    let none : said (x ∷ []) ≡ [] = rw silent refl in
     record {
       says = rw plain (sym (ap (λ more. block ++ map (λ (line : ℕ × List ℕ). named_value line.1 line.0) more) none ∙ append-nil block));
       ends = rw plain refl;
@@ -60,7 +60,7 @@ taken_comment block x plain comment =
       once = λ before. before;
     }
 
-pub taken_value : (block : Lines) (x : ℕ × List ℕ) → is_blank x ≡ false → is_comment x ≡ false → HasValue x.1 → has_name block (named_value x.1 x.0).name ≡ false → IsTaken block x (block ++ named_value x.1 x.0 ∷ []) None
+pub taken_value : (block : Lines) (x : ℕ × List ℕ) → is_blank x ≡ false → is_silent x ≡ false → HasValue x.1 → has_name block (named_value x.1 x.0).name ≡ false → IsTaken block x (block ++ named_value x.1 x.0 ∷ []) None
 taken_value block x plain said_it valued new =
     let one : said (x ∷ []) ≡ x ∷ [] = rw said_it refl in
     record {
@@ -72,7 +72,7 @@ taken_value block x plain said_it valued new =
 
 -- one line more
 said_more : (some : List (ℕ × List ℕ)) (x : ℕ × List ℕ) → said (some ++ x ∷ []) ≡ said some ++ said (x ∷ [])
-said_more some x = filter-append (λ line. not (is_comment line)) some (x ∷ [])
+said_more some x = filter-append (λ line. not (is_silent line)) some (x ∷ [])
 
 cut_line : (some : List (ℕ × List ℕ)) (x : ℕ × List ℕ) (block after : Lines) → IsCut some block → after ≡ block ++ block_of (x ∷ []) → IsValued (x ∷ []) → NamesOnce after → IsCut (some ++ x ∷ []) after
 cut_line some x block after cut says valued once =

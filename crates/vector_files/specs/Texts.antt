@@ -1,5 +1,5 @@
 -- A vector file's text, cut into blocks.
-use Rattle.std.specs.Prelude.{◌≡◌, ℕ, List, [], ◌∷◌, ◌++◌, map, filter, length, Bool, false, not, nat_eq, ◌==◌, All, codes, Option, None, Some, if◌then◌else◌}
+use Rattle.std.specs.Prelude.{◌≡◌, ℕ, List, [], ◌∷◌, ◌++◌, map, filter, length, Bool, false, not, ◌||◌, nat_eq, ◌==◌, All, codes, Option, None, Some, if◌then◌else◌}
 use Rattle.std.specs.List.{slice_split, enumerate_from, starts_with}
 use Rattle.std.specs.Str.{trim}
 use Rattle.std.specs.Str.Lines.{lines}
@@ -10,19 +10,23 @@ use Rattle.vector_files.specs.Blocks.{HasValue, named_value, NamesOnce}
 abbrev pub numbered : List ℕ → List (ℕ × List ℕ)
 numbered text = enumerate_from 1 (lines text)
 
--- a line of white space alone ends a block
+-- an empty line ends a block
 abbrev pub is_blank : ℕ × List ℕ → Bool
-is_blank line = length (trim line.1) == 0
+is_blank line = length line.1 == 0
 
 -- a line that begins with # is a comment
 abbrev pub is_comment : ℕ × List ℕ → Bool
 is_comment line = starts_with nat_eq line.1 (codes "#")
 
--- some lines without the comments
-abbrev pub said : List (ℕ × List ℕ) → List (ℕ × List ℕ)
-said some = filter (λ line. not (is_comment line)) some
+-- a comment says nothing, nor does a line of white space alone
+abbrev pub is_silent : ℕ × List ℕ → Bool
+is_silent line = is_comment line || (length (trim line.1) == 0)
 
--- each line that is no comment has a value
+-- some lines without those that say nothing
+abbrev pub said : List (ℕ × List ℕ) → List (ℕ × List ℕ)
+said some = filter (λ line. not (is_silent line)) some
+
+-- each line that says something has a value
 abbrev pub IsValued : List (ℕ × List ℕ) → Type 0
 IsValued some = All (λ line. HasValue line.1) (said some)
 
@@ -38,7 +42,7 @@ parts_of text = slice_split is_blank (numbered text)
 abbrev pub blocks_of : List ℕ → List Lines
 blocks_of text = filter (λ block. not (length block == 0)) (map block_of (parts_of text))
 
--- a text that is well formed: each line but blank ones and comments has a value, and no block has a name twice
+-- a text that is well formed: each line but blank ones and those that say nothing has a value, and no block has a name twice
 pub record IsVectorText (text : List ℕ) : Type 0 where
   pub valued : All IsValued (parts_of text)
   pub once : All NamesOnce (blocks_of text)

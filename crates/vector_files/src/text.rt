@@ -1,7 +1,7 @@
 // A vector file's text, cut into blocks.
 ghost use Rattle.std.specs.Prelude.{◌≡◌, ◌+◌, ◌++◌, [], IfOk, OnOk, length, option_to_list};
-ghost use Rattle.vector_files.specs.Texts.{is_blank, is_comment, blocks_of, IsVectorText};
-ghost use Rattle.vector_files.specs.Texts.{ended, IsTaken};
+ghost use Rattle.vector_files.specs.Texts.{is_blank, is_comment, is_silent, blocks_of};
+ghost use Rattle.vector_files.specs.Texts.{IsVectorText, ended, IsTaken};
 
 use crate::blocks::Block;
 use anyhow::Context;
@@ -20,13 +20,20 @@ impl<'t> Line<'t> {
     fn is_blank(&self) -> bool
         ensures { result ≡ is_blank (self.now.number, self.now.text.now) }
     {
-        self.text.trim().is_empty()
+        self.text.is_empty()
     }
 
     fn is_comment(&self) -> bool
         ensures { result ≡ is_comment (self.now.number, self.now.text.now) }
     {
         self.text.starts_with('#')
+    }
+
+    /// Whether it is a comment, or white space alone.
+    fn is_silent(&self) -> bool
+        ensures { result ≡ is_silent (self.now.number, self.now.text.now) }
+    {
+        self.is_comment() || self.text.trim().is_empty()
     }
 }
 
@@ -67,7 +74,7 @@ impl<'t> Cut<'t> {
         if line.is_blank() {
             return Ok(self.end());
         }
-        if line.is_comment() {
+        if line.is_silent() {
             return Ok(None);
         }
         self.block
@@ -117,9 +124,9 @@ fn with_ended(count: usize, block: Option<Block>) -> anyhow::Result<usize>
         .context("there are more cases than can be counted")
 }
 
-/// The blocks of a text, in their order: what stands between its blank lines, unless it is nothing
-/// or comments alone. It is an error if some other line has no equals sign, or if a block has a name
-/// twice; the error says on which line.
+/// The blocks of a text, in their order: what stands between its empty lines, unless it is nothing,
+/// or comments and lines of white space alone, which say nothing. It is an error if some other line
+/// has no equals sign, or if a block has a name twice; the error says on which line.
 pub fn blocks_of<'t>(heap: Global, text: &'t str) -> anyhow::Result<Vec<Block<'t>>>
     ensures cut { IfOk result (λ blocks. blocks.items ≡ blocks_of text.now) }
     ensures sound { IfOk result (λ _. IsVectorText text.now) }
