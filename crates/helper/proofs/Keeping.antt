@@ -3,8 +3,8 @@ use Rattle.std.proofs.Common.{◌≡◌, ℕ, zero, suc, ◌<◌, true, false, e
 use Rattle.std.proofs.lemmas.Bool.{cases_Bool, and_from, and_parts, eq-eqb, eqb-true, cond-true, cond-false}
 use Rattle.std.proofs.lemmas.Option.{none-some}
 use Rattle.helper.specs.declared.entry.Entry.{Entry}
-use Rattle.helper.specs.Holding.{Holding}
-use Rattle.helper.specs.Entries.{is_of, lookup, Agrees}
+use Rattle.helper.specs.Holding.{Holding, Stays}
+use Rattle.helper.specs.Entries.{is_of, lookup, found_or, cached, Agrees}
 
 -- an entry that was not there is found where it is put
 pub found_put : (es : List (Option Entry)) (i : ℕ) (x : Entry) → lookup es x.key x.index ≡ None → i < length es → lookup (set es i (Some x)) x.key x.index ≡ Some x.row
@@ -19,8 +19,8 @@ found_put (Some y ∷ es) (suc i) x none l =
     (λ (e : t ≡ false). cond-false t _ _ e ∙ found_put es i x (sym (cond-false t (Some y.row) rest e) ∙ none) (omega arith))
     (cases_Bool t)
 
--- what is found among entries that agree is the row below
 module _ (h : Holding) where
+  -- what is found among entries that agree is the row below
   pub found_below : (es : List (Option Entry)) (key index : ℕ) (row : List ℕ) → Agrees es h → Some row ≡ lookup es key index → row ≡ h.row key index
   found_below [] key index row a e = absurd (none-some row (sym e))
   found_below (None ∷ es) key index row a e = found_below es key index row (λ n. a (suc n)) e
@@ -35,3 +35,23 @@ module _ (h : Holding) where
       same ∙ a 0 x refl ∙ ap (λ k. h.row k x.index) (eqb-true x.key key both.0) ∙ ap (λ n. h.row key n) (eqb-true x.index index both.1))
       (λ (n : t ≡ false). found_below es key index row (λ n. a (suc n)) (e ∙ cond-false t (Some x.row) rest n))
       (cases_Bool t)
+
+  found_same : (o : Option (List ℕ)) (below : List ℕ) → ((row : List ℕ) → Some row ≡ o → row ≡ below) → found_or o below ≡ below
+  found_same None below f = refl
+  found_same (Some row) below f = f row refl
+
+  -- so entries that agree alter nothing
+  pub cached_same : (es : List (Option Entry)) → Agrees es h → cached es h ≡ h
+  cached_same es a = λ j. record {
+    number = h.number;
+    row = λ key index. found_same (lookup es key index) (h.row key index) (λ row. found_below es key index row a) j;
+  }
+
+-- a cache stays if what is below does, and its entries agree again
+module _ {H : Type 0} (held : H → Holding) (Faithful : H → Type 0) where
+  pub stays_over : (es fs : List (Option Entry)) (a b : H) → Stays held Faithful a b → (Agrees es (held a) → held b ≡ held a → Agrees fs (held b)) →
+      Faithful a × Agrees es (held a) → (cached fs (held b) ≡ cached es (held a)) × (Faithful b × Agrees fs (held b))
+  stays_over es fs a b below kept f =
+      let stays = below f.0 in
+      let agrees = kept f.1 stays.0 in
+      (cached_same (held b) fs agrees ∙ stays.0 ∙ sym (cached_same (held a) es f.1), (stays.1, agrees))

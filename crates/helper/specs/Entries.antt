@@ -13,6 +13,18 @@ lookup [] key index = None
 lookup (None ∷ es) key index = lookup es key index
 lookup (Some e ∷ es) key index = if is_of key index e then Some e.row else lookup es key index
 
+-- the row that was found, or another where there is none
+abbrev pub found_or : Option (List ℕ) → List ℕ → List ℕ
+found_or (Some row) other = row
+found_or None other = other
+
+-- the rows of the entries before those below; the numbers are those below
+abbrev pub cached : List (Option Entry) → Holding → Holding
+cached entries below = record {
+  number = below.number;
+  row = λ key index. found_or (lookup entries key index) (below.row key index);
+}
+
 -- every entry has the row below
 abbrev pub Agrees : List (Option Entry) → Holding → Type 0
 Agrees entries below =

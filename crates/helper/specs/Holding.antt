@@ -9,6 +9,15 @@ pub record Holding : Type 0 where
   pub number : ℕ → ℕ
   pub row : ℕ → ℕ → List ℕ
 
+-- as many rows of every key
+abbrev pub SameNumbers : Holding → Holding → Type 0
+SameNumbers a b = (key : ℕ) → a.number key ≡ b.number key
+
+-- a faithful helper stays faithful, and holds what it held
+abbrev pub Stays : {X : Type 0} → (X → Holding) → (X → Type 0) → X → X → Type 0
+Stays holding Faithful before after =
+    Faithful before → (holding after ≡ holding before) × Faithful after
+
 -- what is checked before one of `number` rows is read: its index is below the number
 abbrev pub read_checks : ℕ → ℕ → List (Bool × Refusal)
 read_checks number index = (nat_lt index number, Beyond) ∷ []

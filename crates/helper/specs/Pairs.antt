@@ -13,3 +13,7 @@ paired a b = record {
 -- a pair as a helper
 abbrev pub of_pair : {A B : Type 0} → (A → Holding) → (B → Holding) → Pair A B → Holding
 of_pair f g p = paired (f p.first) (g p.second)
+
+-- both halves are
+abbrev pub PairFaithful : {A B : Type 0} → (A → Type 0) → (B → Type 0) → Pair A B → Type 0
+PairFaithful F G p = F p.first × G p.second

@@ -1,10 +1,10 @@
 // The public table, on borrowed bytes.
-ghost use Rattle.std.specs.Prelude.{◌≡◌, ℕ, ◌<◌, IfOk};
+ghost use Rattle.std.specs.Prelude.{◌≡◌, ⊤, ℕ, ◌<◌, IfOk};
 ghost use Rattle.std.specs.Result.{result_err};
 ghost use Rattle.checks.specs.Checks.{first_refusal};
 ghost use Rattle.rows.specs.Bytes.{row_at};
 ghost use Rattle.plan.specs.View.{view};
-ghost use Rattle.helper.specs.Holding.{read_checks};
+ghost use Rattle.helper.specs.Holding.{read_checks, SameNumbers, Stays};
 ghost use Rattle.helper.specs.Tables.{whole, of_table, of_plan};
 ghost use Rattle.helper.specs.Laws.{Lending};
 
@@ -51,6 +51,8 @@ impl<'a> Table<'a> {
 impl Helper for Table<'_> {
     ghost held = { of_table };
 
+    ghost faithful = { λ _. ⊤ };
+
     fn number(&self, key: u32) -> usize {
         self.part(key).number()
     }
@@ -60,7 +62,8 @@ impl Helper for Table<'_> {
         ensures answer { result_err result
             ≡ first_refusal (read_checks ((of_table self.old).number key) index) }
         ensures row { IfOk result (λ row. row ≡ (of_table self.old).row key index) }
-        ensures after { of_table self.new ≡ of_table self.old }
+        ensures numbers { SameNumbers (of_table self.new) (of_table self.old) }
+        ensures after { Stays of_table (λ _. ⊤) self.old self.new }
         ensures same { self.new ≡ self.old }
     {
         self.part(key).row(index)

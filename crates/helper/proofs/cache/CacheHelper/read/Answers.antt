@@ -1,13 +1,16 @@
 use Rattle.std.proofs.Common.{◌≡◌, ◌<◌, length, None, arith, rules}
 use Rattle.helper.specs.declared.entry.Entry.{Entry}
 use Rattle.helper.specs.Entries.{lookup}
-use Rattle.helper.proofs.Keeping.{found_put, found_below}
+use Rattle.helper.proofs.Keeping.{found_put, found_below, stays_over}
 use Rattle.helper.proofs.cache.CacheHelper.read.Goals as goal
 
-pub returns-in-Some-clause-row : goal.returns-in-Some-clause-row
-returns-in-Some-clause-row g c =
+pub returns-in-Some-clause-row_below : goal.returns-in-Some-clause-row_below
+returns-in-Some-clause-row_below g c agrees =
     let cache = c.args.self.now in
-    found_below (g.H.Helper.held cache.below) cache.entries c.args.key c.args.index c.in-Some.row cache.agrees c.in-Some.ensures
+    found_below (g.H.Helper.held cache.below) cache.entries c.args.key c.args.index c.in-Some.row agrees c.in-Some.ensures
+
+pub returns-clause-after : goal.returns-clause-after
+returns-clause-after g c = stays_over g.H.Helper.held g.H.Helper.faithful _ _ _ _ c.read.ensures.after (λ agrees same. search rules)
 
 pub returns-clause-last : goal.returns-clause-last
 returns-clause-last g c =
