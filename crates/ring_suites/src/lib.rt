@@ -3,6 +3,7 @@
 
 mod deal;
 mod lending;
+mod once;
 mod refusals;
 mod setting;
 mod sources;
