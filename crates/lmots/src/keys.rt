@@ -29,20 +29,11 @@ fn chain_ends<H: Hash>(origin: Origin, width: Width, first: u32) -> [[Row; 8]; 2
         (2 ^ bits width - 1) }
 {
     let top = last_position(width);
-    let count = chain_count(width);
-    array::from_fn(
-        |i| -> [Row; 8]
-            requires { i < 265 }
-            ensures { i < count → (l : ℕ) → l < 8 → slice_index_or result l []
-                ≡ X H.hashed origin.id.bytes origin.seed.bytes ((first + l) % 2 ^ 32) i top }
-        {
-            if i < count {
-                Lanes::<H>::of_keys(origin.id, first, i as u16).rows_at(origin.seed, top)
-            } else {
-                [[0; 32]; 8]
-            }
-        },
-    )
+    let mut ends = [[[0; 32]; 8]; 265];
+    for (i, rows) in ends[..chain_count(width)].iter_mut().enumerate() {
+        *rows = Lanes::<H>::of_keys(origin.id, first, i as u16).rows_at(origin.seed, top);
+    }
+    ends
 }
 
 // The public key of key q, whose chain ends stand in lane l.
