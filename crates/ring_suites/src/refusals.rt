@@ -38,8 +38,7 @@ fn zero_dealer(heap: Global, plan: Plan) -> Result<Dealer<Hasher>, AllocError> {
 }
 
 // What the dealer's call that a block names answers.
-fn call(block: &Block, out: &mut [u8]) -> anyhow::Result<Result<(), Refusal>> {
-    let plan = plan_of(block)?;
+fn call(plan: Plan, block: &Block, out: &mut [u8]) -> anyhow::Result<Result<(), Refusal>> {
     let answer = match block.required("call")? {
         "sheet" => {
             let sources = named_sources(&plan, block)?;
@@ -70,8 +69,9 @@ impl Suite for Refusals {
     }
 
     fn check(&mut self, block: &Block) -> anyhow::Result<Option<bool>> {
+        let plan = plan_of(block)?;
         let mut out = vec![in block.heap(); 0u8; block.number("out_bytes")? as usize]?;
-        let number = call(block, &mut out)?
+        let number = call(plan, block, &mut out)?
             .err()
             .map_or(0, |refusal| refusal.number());
         let same = sha256(&out) == block.array::<32>("out_sha256")?;

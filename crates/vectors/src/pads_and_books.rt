@@ -110,13 +110,18 @@ struct OwnedBook {
 
 impl OwnedBook {
     fn of(block: &Block) -> anyhow::Result<OwnedBook> {
+        let first = block.number("first_key")?;
+        let height = height_of(block)?;
+        let width = width_of(block)?;
+        let check = block.array("check_key")?;
         let salt = block.bytes("salt")?;
+        // The rows come last, so that nothing is hashed for a block that is refused.
         Ok(OwnedBook {
             bytes: rows_of_book(block, block.number("book_bytes")?, &salt)?,
-            first: block.number("first_key")?,
-            height: height_of(block)?,
-            width: width_of(block)?,
-            check: block.array("check_key")?,
+            first,
+            height,
+            width,
+            check,
         })
     }
 
