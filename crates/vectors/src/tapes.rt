@@ -23,17 +23,17 @@ const VALUES: &[&str] = &[
 #[derive(Drop)]
 pub(crate) struct Tapes;
 
-// Which keys of the tree a block says are spent: all, or those that it lists.
-fn spent_keys(block: &Block, height: Height) -> anyhow::Result<Vec<u32>> {
+// Which keys of the tree a block says are spent: those that it lists, or none listed, which is all.
+fn spent_keys(block: &Block) -> anyhow::Result<Option<Vec<u32>>> {
     if block.text("spent") == Some("all") {
-        return Ok((0..height.keys()).collect(block.heap())?);
+        return Ok(None);
     }
-    block.numbers("spent")
+    Ok(Some(block.numbers("spent")?))
 }
 
-// Whether just these keys of the tree are spent.
-fn spent_are(tape: &Tape, height: Height, wanted: &[u32]) -> bool {
-    (0..height.keys()).all(|key| tape.spent(key) == wanted.contains(&key))
+// Whether just the keys that are listed are spent, or all of the tree where there is no list.
+fn spent_are(tape: &Tape, height: Height, listed: Option<&[u32]>) -> bool {
+    (0..height.keys()).all(|key| tape.spent(key) == listed.is_none_or(|keys| keys.contains(&key)))
         && tape.spent(height.keys())
 }
 
@@ -62,12 +62,12 @@ impl Suite for Tapes {
         let height = height_of(block)?;
         let mut bytes = block.bytes("tape")?;
         let refused = Tape::check(&bytes, height).err();
-        let wanted = spent_keys(block, height)?;
+        let listed = spent_keys(block)?;
         let keys = block.numbers("spends")?;
         let answers = block.numbers("answers")?;
         let mut tape = Tape::open(&mut bytes, height);
         let room = tape.room();
-        let spent = spent_are(&tape, height, &wanted);
+        let spent = spent_are(&tape, height, listed.as_deref());
         let answered = spends_answer(&mut tape, &keys, &answers);
         let left = tape.room();
         let after = block.bytes("tape_after")?;
