@@ -2,6 +2,7 @@
 ghost use Rattle.std.specs.Prelude.{ℕ};
 
 use measuring::per_second;
+use std::str;
 use std::time::Instant;
 
 // Where the lines go, and the hash's name, with which each begins.
@@ -14,7 +15,10 @@ pub(crate) struct Report<'r> {
 impl<'r> Report<'r> {
     // Prints the digest of what was computed.
     pub(crate) fn digest(&self, measure: &str, digest: &[u8; 32]) -> anyhow::Result<()> {
-        let text = hex::encode(self.rt.alloc(), digest)?;
+        // Into an array, so that no memory is asked for.
+        let mut text = [0u8; 64];
+        hex::encode_to_slice(digest, &mut text)?;
+        let text = str::from_utf8(&text)?;
         println!(self.rt; "{} {measure} {text}", self.hash)?;
         Ok(())
     }

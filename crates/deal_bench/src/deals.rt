@@ -8,6 +8,7 @@ use pads::HmacPads;
 use plan::Plan;
 use rows::{Identifier, Origin, Seed};
 use sizes::{Height, Width};
+use std::str;
 use std::time::Instant;
 
 // The three groups of two.
@@ -37,7 +38,10 @@ pub(crate) fn measure<H: Hash>(rt: &HostRuntime, name: &str, height: Height) -> 
     eprintln!(rt; "{name} deal_table_micros {micros}")?;
     eprintln!(rt; "{name} deal_parts {parts}")?;
     println!(rt; "{name} deal {dealt} parts")?;
-    let text = hex::encode(rt.alloc(), digest::<H>(&table))?;
+    // Into an array, so that no memory is asked for.
+    let mut text = [0u8; 64];
+    hex::encode_to_slice(digest::<H>(&table), &mut text)?;
+    let text = str::from_utf8(&text)?;
     println!(rt; "{name} deal {text}")?;
     Ok(())
 }
