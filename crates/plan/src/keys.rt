@@ -17,12 +17,14 @@ impl Plan {
         self.share() * number as u32
     }
 
-    // How many keys a group owns.
-    pub(crate) fn key_count(&self, number: usize) -> u32
+    // The first key of a group, and how many keys it owns, by one division.
+    pub(crate) fn keys_of(&self, number: usize) -> (u32, u32)
         requires { number < self.now.groups }
-        ensures { result ≡ key_count (view self.now) number }
+        ensures first { result.0 ≡ first_key (view self.now) number }
+        ensures count { result.1 ≡ key_count (view self.now) number }
     {
-        self.share()
+        let share = self.share();
+        (share * number as u32, share)
     }
 
     // How many keys each group owns: as many as go round.

@@ -56,11 +56,12 @@ impl Plan {
         requires { number < self.now.groups }
         ensures { result ≡ group_of (view self.now) number }
     {
+        let (first, count) = self.keys_of(number);
         Group {
             number,
             mask: self.masks[number],
-            first: self.first_key(number),
-            count: self.key_count(number),
+            first,
+            count,
         }
     }
 }
