@@ -95,6 +95,10 @@ fn digit_or_zero(width: Width, digits: &[u8; 34], i: usize) -> u8
 pub fn position(width: Width, digest: &Row, i: usize) -> u8
     ensures { result ≡ digit (bits width) digest.now i }
 {
+    // Tested before the checksum is made, which takes a step for each digit.
+    if i >= 272 / width.bits() {
+        return 0;
+    }
     digit_or_zero(width, &with_checksum(width, digest), i)
 }
 
