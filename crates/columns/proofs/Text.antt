@@ -1,17 +1,14 @@
 -- A field is a number just if it is that number written right-justified.
-use Rattle.std.proofs.Common.{◌≡◌, ℕ, zero, suc, ◌-◌, ◌^◌, ◌<◌, ◌≤◌, true, false, cond, not, ◌||◌, eqb, leb, List, [], ◌∷◌, ◌++◌, length, get_or, Some, None, Result, Ok, Err, MatchResult, Bor, decimal, sym, refl, ap, ◌∙◌, ⊎_elim, arith, rules}
+use Rattle.std.proofs.Common.{◌≡◌, ℕ, zero, suc, ◌-◌, ◌^◌, ◌<◌, ◌≤◌, true, false, cond, not, ◌||◌, eqb, leb, List, [], ◌∷◌, ◌++◌, length, get_or, Some, None, decimal, sym, refl, ap, ◌∙◌, ⊎_elim, arith, rules}
 use native.Mathlib.Nat.{pow-le-pow_right}
-use Rattle.std.specs.Str.{all_ascii_digits, IsAscii, IsUtf8}
-use Rattle.std.specs.Str.Parse.{ParsesUnsigned}
-use Rattle.std.specs.Result.{result_ok}
+use Rattle.std.specs.Str.{all_ascii_digits}
 use Rattle.std.specs.Char.{is_ascii_digit}
-use Rattle.std.proofs.lemmas.Str.Parse.{IsNumeralModel, numerals_by_fold, tells_all_ascii_digits, digits_value_short, parse_gives}
-use Rattle.std.proofs.lemmas.Str.{IsUtf8-from_ascii}
+use Rattle.std.proofs.lemmas.Str.Parse.{IsNumeralModel, numerals_by_fold, tells_all_ascii_digits, digits_value_short}
 use Rattle.std.proofs.lemmas.Fmt.{decimal-digits_value, digits_decimal, digits_value-decimal, decimal_nonempty, first_decimal, length-decimal-le, decimal_digit}
 use Rattle.std.proofs.lemmas.List.{length-append, length-replicate}
 use Rattle.std.proofs.lemmas.Bool.{ne_eqb, eqb-true, eqb-false, leb-true, ltb-true, lt-ltb, le-leb, cond-true, cond-false, cond_both, and_parts, and_from, or_cases, or_left, or_right, not-true, not_from_false, cases_Bool, cases_lt}
 use Rattle.std.proofs.lemmas.Option.{none-some}
-use Rattle.columns.specs.Number.{spaces, right, unpadded, read_on, plain, number, number_in}
+use Rattle.columns.specs.Number.{spaces, right, unpadded, read_on, plain, number}
 
 pub own : IsNumeralModel (λ ds. all_ascii_digits ds ≡ true) (read_on 0)
 own = numerals_by_fold _ tells_all_ascii_digits read_on (search rules)
@@ -73,31 +70,3 @@ length_right w v k pos kw k9 small =
     let big : v < 2 ^ 64 = omega arith in
     let short : length (decimal v) ≤ k = length-decimal-le k v pos small big in
     length-append (spaces (w - length (decimal v))) (decimal v) ∙ omega (arith, length-replicate {A = ℕ} (w - length (decimal v)) 32)
-
--- ---- the number that the text of a field parses to
-ascii : (ds : List ℕ) → all_ascii_digits ds ≡ true → IsAscii ds
-ascii [] h i = omega arith
-ascii (c ∷ cs) h zero = omega (arith, leb-true c 57 (and_parts (leb 48 c) (leb c 57) (and_parts (is_ascii_digit c) (all_ascii_digits cs) h).0).1)
-ascii (c ∷ cs) h (suc i) = ascii cs (and_parts (is_ascii_digit c) (all_ascii_digits cs) h).1 i
-
-pub is_text : (ds : List ℕ) → plain ds ≡ true → IsUtf8 ds
-is_text ds h = IsUtf8-from_ascii ds (ascii ds (and_parts _ _ h).1)
-
-pub text_is : {E : Type 0} (r : Result (Bor (List ℕ)) E) (ds : List ℕ) (s : Bor (List ℕ)) (Q : E → Type 0) → MatchResult r (λ t. (t.now ≡ ds) × IsUtf8 ds) Q → result_ok r ≡ Some s → s.now ≡ ds
-text_is (Ok t) ds s q h e = let z : t ≡ s = cc in ap (λ x. x.now) (sym z) ∙ h.0
-text_is (Err t) ds s q h e = let y : ◌≡◌ {A = ℕ} 0 1 = cc in absurd (omega arith)
-
-pub text_was : {E : Type 0} (r : Result (Bor (List ℕ)) E) (ds : List ℕ) (Q : E → Type 0) → MatchResult r (λ t. (t.now ≡ ds) × IsUtf8 ds) (λ e. ¬ (IsUtf8 ds) × Q e) → result_ok r ≡ None → IsUtf8 ds → ⊥
-text_was (Ok t) ds q h e u = let y : ◌≡◌ {A = ℕ} 0 1 = cc in absurd (omega arith)
-text_was (Err t) ds q h e u = h.0 u
-
-pub parsed : {E : Type 0} (field ds : List ℕ) (r : Result ℕ E) → ds ≡ unpadded field → length field ≤ 9 → plain ds ≡ true → ParsesUnsigned 32 10 ds r → result_ok r ≡ number_in field
-parsed field ds r is short h p =
-    let q = and_parts _ _ h in
-    let few : length ds ≤ 9 = omega (arith, ap length is, (padded field).0) in
-    let low : read_on 0 ds < 10 ^ 9 = digits_value_short own ds 9 q.1 few in
-    let some : 0 < length ds = ltb-true _ _ (and_parts _ _ q.0).0 in
-    let plain_is : plain (unpadded field) ≡ true = ap plain (sym is) ∙ h in
-    ap result_ok (parse_gives own 32 ds r p q.1 some (omega arith))
-    ∙ ap (λ xs. Some (read_on 0 xs)) is
-    ∙ sym (cond-true (leb (length field) 9) (number field) None (le-leb (length field) 9 short) ∙ cond-true (plain (unpadded field)) (Some (read_on 0 (unpadded field))) None plain_is)

@@ -1,7 +1,7 @@
 // Numbers in a field.
-ghost use Rattle.std.specs.Prelude.{◌≡◌, ◌≤◌, length};
+ghost use Rattle.std.specs.Prelude.{◌≡◌, ◌≤◌, true, length};
 ghost use Rattle.std.specs.Str.{all_ascii_digits};
-ghost use Rattle.columns.specs.Number.{unpadded, number_in, blank, plain};
+ghost use Rattle.columns.specs.Number.{unpadded, number_in, blank, plain, read_on};
 ghost use Rattle.columns.specs.Laws.{Fields};
 
 // What stands behind the leading spaces.
@@ -33,6 +33,17 @@ fn plain(columns: &[u8]) -> bool
     }
 }
 
+// The number that digits write.
+fn value(digits: &[u8]) -> u32
+    requires digits { all_ascii_digits digits.now ≡ true }
+    requires few { length digits.now ≤ 9 }
+    ensures { result ≡ read_on 0 digits.now }
+{
+    digits
+        .iter()
+        .fold(0, |number, digit| number * 10 + (*digit - b'0') as u32)
+}
+
 // The number in a field of at most nine columns, if it is one.
 #[tactic(auto, using(crate::proofs::Telling::fields))]
 pub fn number_in(field: &[u8]) -> Option<u32>
@@ -46,7 +57,7 @@ pub fn number_in(field: &[u8]) -> Option<u32>
     if !plain(digits) {
         return None;
     }
-    str::from_utf8(digits).ok()?.parse().ok()
+    Some(value(digits))
 }
 
 // Whether a field has nothing but spaces.
