@@ -115,7 +115,7 @@ impl OwnedBook {
         let width = width_of(block)?;
         let check = block.array("check_key")?;
         let salt = block.bytes("salt")?;
-        // The rows come last, so that nothing is hashed for a block that is refused.
+        // The rows come last, so that nothing is hashed where one of these values is refused.
         Ok(OwnedBook {
             bytes: rows_of_book(block, block.number("book_bytes")?, &salt)?,
             first,
